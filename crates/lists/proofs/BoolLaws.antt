@@ -1,0 +1,29 @@
+-- Laws of tests. Assumes nothing.
+use mathlib.Core.Path.{_≡_, refl, sym}
+use mathlib.Core.Bool.{Bool, true, false, cond, not, _&&_}
+use mathlib.Core.List.{List, _++_}
+
+-- a choice between lists, with a list behind it
+pub cond-append {ℓ} : {A : Type ℓ} (t : Bool) (a b c : List A) → cond t a b ++ c ≡ cond t (a ++ c) (b ++ c)
+cond-append true a b c = refl
+cond-append false a b c = refl
+
+-- both halves of a test that holds
+pub and-left : (a b : Bool) → (a && b) ≡ true → a ≡ true
+and-left true b e = refl
+and-left false b e = e
+
+pub and-right : (a b : Bool) → (a && b) ≡ true → b ≡ true
+and-right true b e = e
+and-right false true e = refl
+and-right false false e = e
+
+-- two tests with one answer, as a test
+abbrev pub agree : Bool → Bool → Bool
+agree true b = b
+agree false b = not b
+
+pub agree-eq : (a b : Bool) → agree a b ≡ true → a ≡ b
+agree-eq true b e = sym e
+agree-eq false true e = e
+agree-eq false false e = refl

@@ -1,0 +1,3 @@
+pub mod BoolLaws
+pub mod EveryLaws
+pub mod TableLaws

@@ -1,0 +1,1 @@
+// What the other crates say of lists: definitions in specs/, laws in proofs/. There is no code.
