@@ -1,0 +1,3 @@
+pub mod FindLaws
+pub mod MaskLaws
+pub mod PartLaws

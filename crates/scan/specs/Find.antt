@@ -1,0 +1,24 @@
+-- The first place in a text that passes a test. Assumes nothing: these are definitions.
+use Prim.Native.Nat.{ℕ, zero, suc}
+use mathlib.Core.Bool.{Bool, true, false, cond}
+use mathlib.Core.List.{List, [], _∷_}
+use lib.Dec.{eqb}
+
+-- the index of the first byte that passes, or the length where none does
+unfoldable pub index : (ℕ → Bool) → List ℕ → ℕ
+index test [] = zero
+index test (x ∷ s) = cond (test x) zero (suc (index test s))
+
+-- the same from a cursor on; a cursor beyond the end counts as at the end
+unfoldable pub seek : (ℕ → Bool) → ℕ → List ℕ → ℕ
+seek test zero s = index test s
+seek test (suc at) [] = zero
+seek test (suc at) (x ∷ s) = suc (seek test at s)
+
+-- the test for one byte
+abbrev pub is : ℕ → ℕ → Bool
+is c x = eqb x c
+
+-- the first c from a cursor on, or the length
+abbrev pub found : ℕ → ℕ → List ℕ → ℕ
+found c at s = seek (is c) at s

@@ -1,0 +1,4 @@
+pub mod Find
+pub mod Mask
+pub mod Part
+pub mod Word
