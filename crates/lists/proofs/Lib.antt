@@ -1,3 +1,4 @@
 pub mod BoolLaws
 pub mod EveryLaws
+pub mod OrderLaws
 pub mod TableLaws

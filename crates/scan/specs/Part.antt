@@ -2,7 +2,12 @@
 use Prim.Native.Nat.{ℕ, _-_}
 use mathlib.Core.List.{List}
 use lib.ListN.{take, drop}
+use Rattle.scan.specs.declared.place.Place.{Place}
 
 -- what stands from a on, before e; a place past the end counts as at the end
 abbrev pub part : ℕ → ℕ → List ℕ → List ℕ
 part a e s = take (e - a) (drop a s)
+
+-- what stands at a place
+abbrev pub textAt : Place → List ℕ → List ℕ
+textAt p s = part (p .start) (p .end) s

@@ -4,7 +4,7 @@ use Prim.Native.Nat.{ℕ}
 use mathlib.Core.Bool.{Bool, true, false, not}
 use mathlib.Core.List.{List, [], _∷_}
 use Rattle.lists.specs.Bytes.{among}
-use Rattle.scan.specs.declared.word.Word.{Word}
+use Rattle.scan.specs.declared.place.Place.{Place}
 use Rattle.scan.specs.Find.{seek}
 
 unfoldable pub isSpace : ℕ → Bool
@@ -26,5 +26,5 @@ ink at s = seek isInk at s
 
 -- the next word from a cursor on: from the first byte that is no white space to the next that is, or to the end. No word is left where
 -- it starts at the end
-abbrev pub word : List ℕ → ℕ → Word
+abbrev pub word : List ℕ → ℕ → Place
 word s at = record { start = ink at s; end = space (ink at s) s }

@@ -4,14 +4,16 @@
 //
 // Proved: each answer equals the plain definition of specs/, byte by byte. Assumes nothing.
 mod mask;
+mod place;
 mod word;
 
 ghost use mathlib.Core.Path.{_≡_};
 ghost use Prim.Native.Nat.{_≤_};
 ghost use lib.ListN.{length};
 ghost use Rattle.scan.specs.Find.{found};
-ghost use Rattle.scan.specs.Part.{part};
-pub use word::Word;
+pub use place::Place;
+pub use place::part;
+pub use place::text;
 pub use word::find_ink;
 pub use word::find_space;
 pub use word::is_space;
@@ -72,20 +74,4 @@ pub fn find(given: &[u8], at: usize, b: u8) -> usize
     } else {
         find_many(s, at, b)
     }
-}
-
-// What stands from a on, before e. A place past the end counts as at the end, so every pair of numbers has a part.
-pub fn part<'a>(s: &'a [u8], a: usize, e: usize) -> &'a [u8]
-    ensures { λ r. ⌜ now r ≡ part a e (now (s .entry)) ⌝ }
-{
-    if e <= s.len() {
-        if a <= e {
-            return &s[a..e];
-        }
-        return &s[..0];
-    }
-    if a <= s.len() {
-        return &s[a..];
-    }
-    &s[..0]
 }

@@ -1,15 +1,10 @@
 // White space and words: document 01's ASCII white space is space, tab, LF, FF and CR.
+use super::place::Place;
 ghost use mathlib.Core.Path.{_≡_};
 ghost use Prim.Native.Nat.{_≤_};
 ghost use lib.ListN.{length};
 ghost use Rattle.scan.specs.Find.{seek};
 ghost use Rattle.scan.specs.Word.{isSpace, side, space, ink, word};
-
-// Where a word stands in its text: from `start`, before `end`. No word was left where `start` is the text's length.
-pub struct Word {
-    pub start: usize,
-    pub end: usize,
-}
 
 pub fn is_space(b: u8) -> bool
     ensures { λ r. ⌜ r ≡ isSpace b ⌝ }
@@ -48,11 +43,11 @@ pub fn find_ink(s: &[u8], at: usize) -> usize
     find_side(s, at, false)
 }
 
-// The next word from `at` on: in ` sq0 8` from 4 on it is the `8` at 5.
-pub fn next_word(s: &[u8], at: usize) -> Word
+// The next word from `at` on: in ` sq0 8` from 4 on it is the `8` at 5. No word is left where it starts at the text's length.
+pub fn next_word(s: &[u8], at: usize) -> Place
     ensures { λ r. ⌜ r ≡ word (now (s .entry)) at ⌝ }
 {
     let start = find_ink(s, at);
     let end = find_space(s, start);
-    Word { start, end }
+    Place { start, end }
 }

@@ -2,8 +2,8 @@
 use native.Mathlib.Omega.{arith}
 use borrow.Author.Needs.{needs}
 use Rattle.scan.proofs.PartLaws.{part-none, part-past, part-rest}
-use Rattle.scan.proofs.part.Statement.{statement}
-use Rattle.scan.proofs.part.Tie as tie
+use Rattle.scan.proofs.place.part.Statement.{statement}
+use Rattle.scan.proofs.place.part.Tie as tie
 
 returns-2 : tie.Need-returns-2
 returns-2 c = let a = c .before .before .before .args in part-none (a .a) (a .e) (a .s .now) (omega arith)
