@@ -96,13 +96,12 @@ module _ {a b d d₁ D : List ℕ} {at r₁ R : ℕ} where
 abbrev pub Left : List ℕ → List ℕ → ℕ → List ℕ → List ℕ → ℕ → Type 0
 Left text d₀ at₀ rest d at = Lays rest d at (laid d₀ at₀ text) (min (at₀ + length text) (length d₀))
 
+-- the start: all of it
+pub left-start : (text d : List ℕ) (at : ℕ) → Left text d at text d (min at (length d))
+left-start text d at = record { left = sym (laid-clipped text d at); end = omega arith }
+
 module _ {text d₀ d : List ℕ} {at₀ at : ℕ} where
   -- the end
   pub none-left : at ≤ length d → Left text d₀ at₀ [] d at → Lays text d₀ at₀ d at
   unfolding laid
   none-left h p = record { left = sym (p .left); end = omega arith }
-
-  -- the buffer's end
-  pub no-room-left : {rest : List ℕ} → Left text d₀ at₀ rest d at → length d ≤ at → at ≤ length d → Lays text d₀ at₀ d at
-  no-room-left {rest} p h g =
-      record { left = sym (p .left ∙ laid-past rest d at h); end = omega (arith, p .end) }

@@ -29,7 +29,8 @@ pub fn lay_byte(b: u8, out: &mut [u8], at: usize) -> usize
     out.len()
 }
 
-fn least(a: usize, b: usize) -> usize
+// The smaller of two.
+pub fn least(a: usize, b: usize) -> usize
     ensures { λ r. ⌜ r ≡ min a b ⌝ }
 {
     if a <= b { a } else { b }

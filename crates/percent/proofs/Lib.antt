@@ -1,0 +1,4 @@
+pub mod CursorLaws
+pub mod PercentLaws
+pub mod SameLaws
+pub mod SetLaws

@@ -1,0 +1,3 @@
+pub mod Percent
+pub mod Sets
+pub mod Unit

@@ -1,0 +1,34 @@
+-- Which bytes each set escapes: document 01, "Writing". Assumes nothing: these are definitions.
+use Prim.Native.Nat.{ℕ}
+use mathlib.Core.Bool.{Bool, true, false, not, _||_}
+use mathlib.Core.List.{List, [], _∷_}
+use lib.Dec.{ltb, leb}
+use lib.ListN.{length}
+use Rattle.lists.specs.Bytes.{between, among}
+use Rattle.buffer.specs.Answer.{Reason, _when_}
+use Rattle.percent.specs.declared.set.Set.{Set}
+use Rattle.percent.specs.declared.set.Set.the-variants.{Name, Column, Attribute}
+
+-- columns 2 and 3: 0x00 to 0x1F, 0x7F, `%` and every byte from 0x80
+abbrev pub column : ℕ → Bool
+column x = between 0 31 x || among (127 ∷ 37 ∷ []) x || leb 128 x
+
+-- tags and values: also `;` `=` `&` `,`
+abbrev pub attribute : ℕ → Bool
+attribute x = column x || among (59 ∷ 61 ∷ 38 ∷ 44 ∷ []) x
+
+-- column 1: all but letters, digits and `.` `:` `^` `*` `$` `@` `!` `+` `_` `?` `-` `|`
+abbrev pub name : ℕ → Bool
+name x =
+    not (between 65 90 x || between 97 122 x || between 48 57 x
+    || among (46 ∷ 58 ∷ 94 ∷ 42 ∷ 36 ∷ 64 ∷ 33 ∷ 43 ∷ 95 ∷ 63 ∷ 45 ∷ 124 ∷ []) x)
+
+-- whether a set escapes a byte
+unfoldable pub escapes : Set → ℕ → Bool
+escapes Name x = name x
+escapes Column x = column x
+escapes Attribute x = attribute x
+
+-- why a text is not percent-encoded, in order: 24, over 1,048,576 bytes
+abbrev pub encode-reasons : List ℕ → List Reason
+encode-reasons s = (24 when ltb 1048576 (length s)) ∷ []

@@ -1,0 +1,74 @@
+// Encoding: each byte of the set as `%` and two capital hex digits.
+use super::set::Set;
+use buffer::Written;
+ghost use mathlib.Core.Path.{_≡_};
+ghost use Prim.Native.Nat.{_≤_};
+ghost use lib.ListN.{length};
+ghost use Rattle.buffer.specs.Answer.{Wrote};
+ghost use Rattle.buffer.specs.Laid.{Lays};
+ghost use Rattle.percent.specs.Percent.{escape, piece, encoded, count};
+ghost use Rattle.percent.specs.Sets.{escapes, encode-reasons};
+
+// The longest text that is percent-encoded.
+const LONGEST: usize = 1048576;
+
+// How many bytes of a text the set escapes: encoded, the text is two bytes longer for each.
+pub fn count_escaped(set: Set, s: &[u8]) -> usize
+    ensures { λ r. ⌜ (r ≡ count (escapes set) (now (s .entry))) × (r ≤ length (now (s .entry))) ⌝ }
+{
+    let mut n: usize = 0;
+    let mut i = 0;
+    while i < s.len() {
+        n += super::set::escaped(set, s[i]) as usize;
+        i += 1;
+    }
+    n
+}
+
+fn lay_escape(b: u8, out: &mut [u8], at: usize) -> usize
+    ensures { λ r. ⌜ Lays (escape b) (now (out .entry)) at (now (out .exit)) r ⌝ }
+{
+    let high = buffer::lay_byte(b'%', out, at);
+    let low = buffer::lay_byte(super::hex::hex_digit(b / 16), out, high);
+    buffer::lay_byte(super::hex::hex_digit(b % 16), out, low)
+}
+
+// One byte, escaped where the set says so.
+fn lay_piece(set: Set, b: u8, out: &mut [u8], at: usize) -> usize
+    ensures { λ r. ⌜ Lays (piece (escapes set) b) (now (out .entry)) at (now (out .exit)) r ⌝ }
+{
+    if super::set::escaped(set, b) {
+        lay_escape(b, out, at)
+    } else {
+        buffer::lay_byte(b, out, at)
+    }
+}
+
+// Lays the encoded text over a buffer from `at` on.
+pub fn lay_encoded(set: Set, s: &[u8], out: &mut [u8], at: usize) -> usize
+    ensures { λ r. ⌜ Lays (encoded (escapes set) (now (s .entry))) (now (out .entry)) at (now (out .exit)) r ⌝ }
+{
+    let mut to = buffer::least(at, out.len());
+    let mut i = 0;
+    while i < s.len() {
+        to = lay_piece(set, s[i], out, to);
+        i += 1;
+    }
+    to
+}
+
+// Writes the encoded text at the start of a buffer. Refusals, in order: 24, the text is over 1,048,576 bytes; 22, with the length
+// needed, where it does not fit.
+pub fn encode(set: Set, s: &[u8], out: &mut [u8]) -> Written
+    ensures { λ r. ⌜ Wrote (encode-reasons (now (s .entry))) (encoded (escapes set) (now (s .entry))) (now (out .entry)) (now (out .exit)) r ⌝ }
+{
+    if LONGEST < s.len() {
+        return Written::Refused(24);
+    }
+    let need = s.len() + 2 * count_escaped(set, s);
+    if out.len() < need {
+        return Written::NoRoom(need);
+    }
+    lay_encoded(set, s, out, 0);
+    Written::Done(need)
+}
