@@ -5,7 +5,7 @@ use mathlib.Core.Path.{_≡_, refl, sym, ap, _∙_}
 use mathlib.Core.Logic.{_⊎_, inl, inr, _≢_}
 use mathlib.Core.Bool.{true, false, true≢false}
 use mathlib.Core.List.{List, [], _∷_, _++_}
-use Prim.Native.Nat.{ℕ, zero, suc, _+_, _-_, _*_, _/_, _%_, _^_, _≤_, _<_}
+use Prim.Native.Nat.{ℕ, zero, suc, _+_, _/_, _%_, _^_, _≤_, _<_}
 use lib.ListN.{length, getD, length-append, List·getD-append}
 use borrow.Author.Tests.{lt-ltb, le-ltb, le-leb}
 use Rattle.lists.specs.Bytes.{Every, Lacks}
@@ -44,6 +44,7 @@ decimal-rec P one more n = below n n (omega arith)
     either : (m : ℕ) → (10 ≤ m → P (m / 10) (decimal (m / 10))) → (10 ≤ m) ⊎ (m < 10) → P m (decimal m)
     either m rest (inl h) = rw (decimal-more m h) (more m (decimal (m / 10)) h (rest h))
     either m rest (inr h) = rw (decimal-one m h) (one m h)
+
     below : (k m : ℕ) → m ≤ k → P m (decimal m)
     below zero m h = rw (decimal-one m (omega arith)) (one m (omega arith))
     below (suc k) m h = either m (λ g. below k (m / 10) (omega arith)) (le-or-lt 10 m)
@@ -74,12 +75,20 @@ decimal-lacks c n e = lacks (decimal n) (decimal-digits n)
     lacks [] p = tt
     lacks (x ∷ s) p = (λ same. true≢false (rw same at (sym (p .0)) ∙ e), lacks s (p .1))
 
--- there is one, and the first of several is not 0
-pub decimal-lead : (n : ℕ) → (0 < length (decimal n)) × (0 < n → getD (decimal n) 0 0 ≢ 48)
-decimal-lead =
+-- both of the next two at once, since the second needs the first
+starts : (n : ℕ) → (0 < length (decimal n)) × (0 < n → getD (decimal n) 0 0 ≢ 48)
+starts =
     decimal-rec (λ n s. (0 < length s) × (0 < n → getD s 0 0 ≢ 48))
     (λ n h. (omega arith, λ p e. omega arith))
     (λ n s h p. (simp length-append (omega arith), λ q. rw (List·getD-append s ((48 + n % 10) ∷ []) 0 0 (p .0)) (p .1 (omega arith))))
+
+-- there is one
+pub decimal-some : (n : ℕ) → 0 < length (decimal n)
+decimal-some n = starts n .0
+
+-- the first is not 0
+pub decimal-lead : (n : ℕ) → 0 < n → getD (decimal n) 0 0 ≢ 48
+decimal-lead n = starts n .1
 
 -- a number of 64 bits has at most twenty
 pub length-decimal : (n : ℕ) → n < 2 ^ 64 → length (decimal n) ≤ 20
@@ -98,11 +107,7 @@ length-more n h = ap length (decimal-more n h) ∙ simp length-append
 module _ (low high n : ℕ) (h : low ≤ n) (g : n ≤ high) where
   -- whatever the bounds
   pub numeral-decimal : numeral low high (decimal n) ≡ Value n
-  numeral-decimal = read (decimal n) (decimal-lead n .0) (decimal-digits n) (value-decimal n)
-    where
-      read : (s : List ℕ) → 0 < length s → Every (λ x. isDigit x ≡ true) s → value s ≡ n → numeral low high s ≡ Value n
-      read [] some p e = absurd (omega arith)
-      read (x ∷ s) some p e = numeral-value x s p e h g
+  numeral-decimal = numeral-value (decimal n) (decimal-some n) (decimal-digits n) (value-decimal n) h g
 
   -- and where a `+` may stand before the digits
   pub plus-decimal : numeral low high (sansPlus (decimal n)) ≡ Value n
@@ -112,6 +117,7 @@ module _ (low high n : ℕ) (h : low ≤ n) (g : n ≤ high) where
       same [] p = no-plus [] (λ some. absurd (omega arith))
       same (x ∷ s) p = no-plus (x ∷ s) (λ some. p .0)
 
+-- so in each of the three forms
 pub position-decimal : (n : ℕ) → 1 ≤ n → n ≤ most64 → position (decimal n) ≡ Value n
 position-decimal n = numeral-decimal 1 most64 n
 

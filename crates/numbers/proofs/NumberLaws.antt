@@ -20,7 +20,7 @@ use Rattle.numbers.specs.Number.{isDigit, allDigits, someDigits, value-a
 within : {low high x : ℕ} → low ≤ x → x ≤ high → between low high x ≡ true
 within {low} {high} {x} h g = rw (le-leb low x h, le-leb x high g)
 
--- one more digit makes ten times the value
+-- one more digit makes ten times the value and the digit
 pub value-snoc : (s : List ℕ) (v x : ℕ) → value-after v (s ++ (x ∷ [])) ≡ value-after v s * 10 + (x - 48)
 unfolding value-after
 value-snoc [] v x = refl
@@ -44,16 +44,17 @@ numeral-bounds {low} {high} {v} s e = go (someDigits s && between low high (valu
         (omega (arith, leb-true low (value s) (and-left _ _ both)), omega (arith, leb-true (value s) high (and-right (leb low (value s)) _ both)))
     go false p q = let z : _≡_ {A = ℕ} 0 1 = cc in absurd (omega arith)
 
-all-digits : (s : List ℕ) → Every (λ y. isDigit y ≡ true) s → allDigits s ≡ true
+-- the test of digits, from each
+all-digits : (s : List ℕ) → Every (λ x. isDigit x ≡ true) s → allDigits s ≡ true
 unfolding allDigits
 all-digits [] h = refl
-all-digits (y ∷ s) h = rw (h .0, all-digits s (h .1))
+all-digits (x ∷ s) h = rw (h .0, all-digits s (h .1))
 
--- digits whose value lies between the bounds are read
-pub numeral-value : {low high n : ℕ} (x : ℕ) (s : List ℕ) → Every (λ y. isDigit y ≡ true) (x ∷ s) → value (x ∷ s) ≡ n → low ≤ n → n ≤ high
-    → numeral low high (x ∷ s) ≡ Value n
+-- one or more digits whose value lies between the bounds are read
+pub numeral-value : {low high n : ℕ} (s : List ℕ) → 0 < length s → Every (λ x. isDigit x ≡ true) s → value s ≡ n → low ≤ n → n ≤ high → numeral low high s ≡ Value n
 unfolding numeral someDigits
-numeral-value x s h e low-le le-high = rw (all-digits (x ∷ s) h, e, within low-le le-high)
+numeral-value [] some h e p q = absurd (omega arith)
+numeral-value (x ∷ s) some h e p q = rw (all-digits (x ∷ s) h, e, within p q)
 
 -- ── the sign ──────────────────────────────────────────────────────────────────────────────────
 
@@ -115,5 +116,6 @@ module _ (low high : ℕ) where
         pub onwards-over : high < v * 10 + (getD s i 0 - 48) → onwards v (drop i s) ≡ Invalid
         unfolding value-after onwards
         onwards-over p =
-            rw
-            (drop-cons s i 0 h, lt-leb (value-after (v * 10 + (getD s i 0 - 48)) (drop (suc i) s)) high (omega (arith, value-grows (drop (suc i) s) (v * 10 + (getD s i 0 - 48)))), and-false, and-false)
+            let w = v * 10 + (getD s i 0 - 48) in
+            let k : high < value-after w (drop (suc i) s) = omega (arith, value-grows (drop (suc i) s) w) in
+            rw (drop-cons s i 0 h, lt-leb (value-after w (drop (suc i) s)) high k, and-false, and-false)

@@ -4,8 +4,8 @@ use mathlib.Core.Logic.{⊎-elim, inl, inr}
 use Prim.Native.Nat.{_-_, _≤_}
 use native.Mathlib.Omega.{arith}
 use borrow.Author.Needs.{needs}
-use borrow.Author.Tests.{ltb-true, ltb-false, le-leb, lt-leb}
-use lib.ListN.{length, drop, getD}
+use borrow.Author.Tests.{ltb-true, ltb-false}
+use lib.ListN.{length, drop}
 use Rattle.numbers.specs.Number.{numeral}
 use Rattle.numbers.proofs.NumberLaws.{onwards, numeral-none, numeral-starts, onwards-next, onwards-other, onwards-over, onwards-value, onwards-under}
 use Rattle.numbers.proofs.read.digits.Statement.{statement}
@@ -26,24 +26,12 @@ loop-holds c = (omega arith, numeral-starts _ _ _ _ (c .if1 .left))
 returns-2 : tie.Need-returns-2 Inv-loop μ-loop
 returns-2 c =
     let d = c .before .before in
-    sym (d .before .loop .inv .1 ∙ onwards-other _ _ _ _ _ (d .loop-test .taken) (⊎-elim (λ w. inl (w .taken)) (λ w. inr (ltb-true 57 _ (w .1 .taken))) (c .if2 .came)))
-
-cast-d : tie.Need-cast-d Inv-loop μ-loop
-cast-d c = omega (arith, ltb-false)
-
-sub-if4 : tie.Need-sub-if4 Inv-loop μ-loop
-sub-if4 c = omega (arith, ltb-false)
+    sym (d .before .loop .inv .1 ∙ onwards-other _ _ _ _ _ (d .loop-test .taken) (⊎-elim (λ w. inl (omega arith)) (λ w. inr (omega (arith, ltb-true))) (c .if2 .came)))
 
 returns-3 : tie.Need-returns-3 Inv-loop μ-loop
 returns-3 c =
     let d = c .before .before .before .before in
     sym (d .before .loop .inv .1 ∙ onwards-over _ _ _ _ _ (d .loop-test .taken) (omega (arith, ltb-false)))
-
-mul-v : tie.Need-mul-v Inv-loop μ-loop
-mul-v c = omega (arith, ltb-false)
-
-add-v : tie.Need-add-v Inv-loop μ-loop
-add-v c = omega (arith, ltb-false)
 
 loop-again : tie.Need-loop-again Inv-loop μ-loop
 loop-again c =
@@ -70,11 +58,11 @@ digits-spec =
     loop-holds
     (λ c. search needs)
     returns-2
-    cast-d
-    sub-if4
+    (λ c. omega (arith, ltb-false))
+    (λ c. omega (arith, ltb-false))
     returns-3
-    mul-v
-    add-v
+    (λ c. omega (arith, ltb-false))
+    (λ c. omega (arith, ltb-false))
     (λ c. search needs)
     (λ c. search needs)
     loop-again

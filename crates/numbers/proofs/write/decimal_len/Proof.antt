@@ -2,10 +2,9 @@
 use mathlib.Core.Path.{_≡_, ap}
 use Prim.Native.Nat.{_+_, _/_, _≤_}
 use native.Mathlib.Omega.{arith}
-use borrow.Author.Needs.{needs}
 use lib.ListN.{length}
 use Rattle.numbers.specs.Decimal.{decimal}
-use Rattle.numbers.proofs.DecimalLaws.{decimal-one, decimal-lead, length-more, length-decimal}
+use Rattle.numbers.proofs.DecimalLaws.{decimal-one, decimal-some, length-more, length-decimal}
 use Rattle.numbers.proofs.write.decimal_len.Statement.{statement}
 use Rattle.numbers.proofs.write.decimal_len.Tie as tie
 
@@ -18,7 +17,7 @@ abbrev μ-loop : tie.MeasureT-loop
 loop-again : tie.Need-loop-again Inv-loop μ-loop
 loop-again c =
     let a = c .before in
-    omega (arith, length-more (a .loop .v) (c .loop-test .taken), length-decimal (a .before .args .n) (omega arith), decimal-lead (a .loop .v / 10))
+    omega (arith, length-more (a .loop .v) (c .loop-test .taken), length-decimal (a .before .args .n) (omega arith), decimal-some (a .loop .v / 10))
 
 returns : tie.Need-returns Inv-loop μ-loop
 returns c = omega (arith, ap length (decimal-one (c .before .loop .v) (c .loop-test .left)))
