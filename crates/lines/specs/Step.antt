@@ -1,0 +1,36 @@
+-- One step of the splitter, as a function of the text and the cursor alone, and steps in a row. Assumes nothing: these are definitions.
+use Prim.Native.Nat.{ℕ, zero, suc, _+_, _-_}
+use mathlib.Core.Bool.{Bool, true, false, cond, _&&_}
+use mathlib.Core.List.{List, [], _∷_}
+use lib.Dec.{eqb, leb, ltb}
+use lib.ListN.{length, getD}
+use Rattle.scan.specs.Find.{found}
+use Rattle.scan.specs.Part.{textAt}
+use Rattle.lines.specs.declared.split.Cursor.{Cursor}
+use Rattle.lines.specs.declared.split.Next.{Next}
+use Rattle.lines.specs.declared.split.Next.the-variants.{Line, Done}
+
+-- where a line ends that begins at a cursor and whose line feed is at k: before a carriage return, if that stands just before the line
+-- feed and not before the cursor
+abbrev pub line-end : List ℕ → ℕ → ℕ → ℕ
+line-end s at k = cond (ltb at k && eqb (getD s (k - 1) 0) 13) (k - 1) k
+
+-- the line at a cursor whose line feed, or the text's end, is at k
+abbrev pub line-to : List ℕ → ℕ → ℕ → Next
+line-to s at k =
+    cond (eqb k (length s)) (Line (record { start = at; end = k }) (record { at = k }))
+    (Line (record { start = at; end = line-end s at k }) (record { at = k + 1 }))
+
+-- the next line from a cursor on, with the next cursor; done at the end, and beyond it
+unfoldable pub step : List ℕ → ℕ → Next
+step s at = cond (leb (length s) at) Done (line-to s at (found 10 at s))
+
+-- the lines that n steps in a row hand out from a cursor on
+unfoldable mutual
+  pub steps : ℕ → List ℕ → ℕ → List (List ℕ)
+  steps zero s at = []
+  steps (suc n) s at = after n s (step s at)
+
+  pub after : ℕ → List ℕ → Next → List (List ℕ)
+  after n s Done = []
+  after n s (Line place next) = textAt place s ∷ steps n s (next .at)

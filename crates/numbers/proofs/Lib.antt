@@ -1,0 +1,3 @@
+pub mod DecimalLaws
+pub mod NumberLaws
+mod Samples
