@@ -2,13 +2,13 @@
 -- the lines of the text, and then are done. Assumes nothing.
 use Prim.Native.Nat.{ℕ, zero, suc, _+_, _-_, _≤_, _<_}
 use native.Mathlib.Omega.{arith}
-use mathlib.Core.Path.{_≡_, refl, sym, ap, _∙_}
-use mathlib.Core.Bool.{Bool, true, false, cond}
-use mathlib.Core.List.{List, [], _∷_}
-use lib.Dec.{eqb, leb}
+use mathlib.Core.Path.{_≡_, refl, sym, _∙_}
+use mathlib.Core.Bool.{Bool, true, false, cond, _&&_}
+use mathlib.Core.List.{List, [], _∷_, nil≢cons, cons≢nil}
+use lib.Dec.{eqb, leb, ltb}
 use lib.ListN.{length, take, drop, getD, length-drop, drop-of-length-le}
 use lib.Seq.{getD-drop, take-all}
-use borrow.Author.Tests.{leb-true, leb-false, le-leb, eqb-true, eqb-false, lt-ltb, le-ltb}
+use borrow.Author.Tests.{leb-true, leb-false, eqb-true, eqb-false, ltb-true, lt-ltb, le-ltb}
 use Rattle.scan.specs.Find.{index, is, found}
 use Rattle.scan.specs.Part.{part, textAt}
 use Rattle.scan.specs.declared.place.Place.{Place}
@@ -49,20 +49,26 @@ chomped-part s at (suc k) h =
     go true = let d : at + k - at ≡ k = omega arith in rw d
     go false = let d : at + suc k - at ≡ suc k = omega arith in rw d
 
-line-end-le : (s : List ℕ) (at k : ℕ) → at ≤ k → (at ≤ line-end s at k) × (line-end s at k ≤ k)
-line-end-le s at k h = ?
+line-end-in : (s : List ℕ) (at k : ℕ) → at ≤ k → (at ≤ line-end s at k) × (line-end s at k ≤ k)
+line-end-in s at k h = go (ltb at k) refl (eqb (getD s (k - 1) 0) 13)
+  where
+    go : (l : Bool) → ltb at k ≡ l → (e : Bool) → (at ≤ cond (l && e) (k - 1) k) × (cond (l && e) (k - 1) k ≤ k)
+    go true p true = (omega (arith, ltb-true at k p), omega arith)
+    go true p false = (h, omega arith)
+    go false p e = (h, omega arith)
 
 -- ── one step ──────────────────────────────────────────────────────────────────────────────────
 
--- a line, at a place that begins at the cursor and ends before the next cursor, which has moved on and stays in the text
+-- the first line from a cursor on, at a place that begins there and ends before the next cursor, which moved on within the text
 pub record Hands (s : List ℕ) (at : ℕ) (place : Place) (next : Cursor) : Type 0 where
   pub first : lines (drop at s) ≡ textAt place s ∷ lines (drop (next .at) s)
   pub start : place .start ≡ at
   pub forward : place .start ≤ place .end
-  pub before : place .end ≤ next .at
+  pub behind : place .end ≤ next .at
   pub on : at < next .at
   pub within : next .at ≤ length s
 
+-- what an answer says of the lines from a cursor on
 abbrev pub Means : List ℕ → ℕ → Next → Type 0
 Means s at Done = lines (drop at s) ≡ []
 Means s at (Line place next) = Hands s at place next
@@ -71,9 +77,96 @@ lines-past : (at : ℕ) (s : List ℕ) → length s ≤ at → lines (drop at s)
 unfolding lines-after
 lines-past at s h = rw (drop-of-length-le s h)
 
+module _ (s : List ℕ) (at : ℕ) (more : at < length s) where
+  inside : at ≤ length s
+  inside = omega arith
+
+  last-means : found 10 at s ≡ length s → Means s at (Line (record { start = at; end = found 10 at s }) (record { at = found 10 at s }))
+  last-means e =
+      record {
+        first =
+            rw (take-all (found 10 at s - at) (drop at s) (simp length-drop (omega arith)), lines-past (found 10 at s) s (omega arith))
+            (lines-uncut (drop at s) (simp length-drop (omega arith)) (omega (arith, seek-at (is 10) at s inside, length-drop at s)));
+        start = refl;
+        forward = omega arith;
+        behind = omega arith;
+        on = omega arith;
+        within = omega arith;
+      }
+
+  fed-means : found 10 at s < length s
+      → Means s at (Line (record { start = at; end = line-end s at (found 10 at s) }) (record { at = found 10 at s + 1 }))
+  fed-means h =
+      let k = seek-at (is 10) at s inside in
+      let e = line-end-in s at (found 10 at s) (omega arith) in
+      record {
+        first =
+            rw (← drop-found 10 at s inside, k, ← chomped-part s at (index (is 10) (drop at s)) (omega arith))
+            (lines-cut (drop at s) (simp length-drop (omega arith)));
+        start = refl;
+        forward = e .0;
+        behind = omega arith;
+        on = omega arith;
+        within = omega arith;
+      }
+
+  line-means : Means s at (line-to s at (found 10 at s))
+  line-means = go (eqb (found 10 at s) (length s)) refl
+    where
+      go : (t : Bool) → eqb (found 10 at s) (length s) ≡ t
+          → Means s at
+          (cond t (Line (record { start = at; end = found 10 at s }) (record { at = found 10 at s }))
+          (Line (record { start = at; end = line-end s at (found 10 at s) }) (record { at = found 10 at s + 1 })))
+      go true e = last-means (eqb-true (found 10 at s) (length s) e)
+      go false e = fed-means (omega (arith, eqb-false (found 10 at s) (length s) e, seek-le (is 10) at s))
+
 pub step-means : (s : List ℕ) (at : ℕ) → Means s at (step s at)
 unfolding step
-step-means s at = go (leb (length s) at) refl (eqb (found 10 at s) (length s)) refl
+step-means s at = go (leb (length s) at) refl
   where
-    go : (l : Bool) → leb (length s) at ≡ l → (e : Bool) → eqb (found 10 at s) (length s) ≡ e → ?
-    go = ?
+    go : (t : Bool) → leb (length s) at ≡ t → Means s at (cond t Done (line-to s at (found 10 at s)))
+    go true e = lines-past at s (leb-true (length s) at e)
+    go false e = line-means s at (leb-false (length s) at e)
+
+-- what a step answered, as its caller has it
+pub means : (s : List ℕ) (at : ℕ) {r k : Next} → r ≡ step s at → r ≡ k → Means s at k
+means s at e f = rw (← f, e) (step-means s at)
+
+-- ── steps in a row ────────────────────────────────────────────────────────────────────────────
+
+-- the lines from a cursor on, by as many steps as there are bytes from there, or by more
+pub steps-lines : (n : ℕ) (s : List ℕ) (at : ℕ) → length s - at ≤ n → steps n s at ≡ lines (drop at s)
+unfolding steps
+steps-lines zero s at h = sym (lines-past at s (omega arith))
+steps-lines (suc n) s at h = go (step s at) (step-means s at) (λ next on. steps-lines n s next (omega arith))
+  where
+    go : (r : Next) → Means s at r → ((next : ℕ) → at < next → steps n s next ≡ lines (drop next s))
+        → handed r (λ place next. textAt place s ∷ steps n s (next .at)) ≡ lines (drop at s)
+    go Done m more = sym m
+    go (Line place next) m more = rw (more (next .at) (m .on)) (sym (m .first))
+
+-- the cursor that an answer leaves, and the one after n steps
+abbrev pub moved : ℕ → Next → ℕ
+moved at Done = at
+moved at (Line place next) = next .at
+
+abbrev pub cursor-after : ℕ → List ℕ → ℕ → ℕ
+cursor-after zero s at = at
+cursor-after (suc n) s at = cursor-after n s (moved at (step s at))
+
+-- after as many steps as there are lines, the step is done
+done-after : (s : List ℕ) (ls : List (List ℕ)) (at : ℕ) → lines (drop at s) ≡ ls → step s (cursor-after (length ls) s at) ≡ Done
+done-after s [] at e = go (step s at) (step-means s at)
+  where
+    go : (r : Next) → Means s at r → r ≡ Done
+    go Done m = refl
+    go (Line place next) m = absurd (cons≢nil (sym (m .first) ∙ e))
+done-after s (l ∷ ls) at e = go (step s at) (step-means s at) (λ next. done-after s ls next)
+  where
+    go : (r : Next) → Means s at r → ((next : ℕ) → lines (drop next s) ≡ ls → step s (cursor-after (length ls) s next) ≡ Done)
+        → step s (cursor-after (length ls) s (moved at r)) ≡ Done
+    go Done m more = absurd (nil≢cons (sym m ∙ e))
+    go (Line place next) m more = more (next .at) (cc (m .first))
+
+pub steps-done : (s : List ℕ) (at : ℕ) → step s (cursor-after (length (lines (drop at s))) s at) ≡ Done
+steps-done s at = done-after s (lines (drop at s)) at refl
