@@ -1,10 +1,12 @@
 -- Laws of `lines`: a line feed parts a text, and lines written one after the other are read back, whatever stands around them.
 -- Assumes nothing.
-use Prim.Native.Nat.{ℕ, suc, _<_}
+use Prim.Native.Nat.{ℕ, suc, _+_, _≤_, _<_}
 use native.Mathlib.Omega.{arith}
 use mathlib.Core.Path.{_≡_, refl, sym, ap, _∙_}
+use mathlib.Core.Bool.{Bool, true, false, cond}
 use mathlib.Core.List.{List, [], _∷_, _++_, append-assoc, append-nil}
-use lib.ListN.{length, take, drop}
+use lib.Dec.{eqb}
+use lib.ListN.{length, take, drop, length-append}
 use borrow.Author.Tests.{ne-eqb}
 use Rattle.lists.specs.Bytes.{Every, Lacks}
 use Rattle.lists.proofs.BoolLaws.{cond-append}
@@ -46,6 +48,21 @@ lines-cut s h =
 pub lines-uncut : (s : List ℕ) → 0 < length s → index (is 10) s ≡ length s → lines s ≡ s ∷ []
 lines-uncut [] h e = absurd (omega arith)
 lines-uncut (x ∷ s) h e = lines-last x s (lacks-all 10 (x ∷ s) e)
+
+-- there are no more lines than bytes
+lines-few-after : (line s : List ℕ) → length (lines-after line s) ≤ length line + length s
+unfolding lines-after
+lines-few-after [] [] = omega arith
+lines-few-after (x ∷ line) [] = omega arith
+lines-few-after line (x ∷ s) = go (eqb x 10) (lines-few-after [] s) (lines-few-after (line ++ (x ∷ [])) s)
+  where
+    go : (t : Bool) → length (lines-after [] s) ≤ 0 + length s → length (lines-after (line ++ (x ∷ [])) s) ≤ length (line ++ (x ∷ [])) + length s
+        → length (cond t (chomped line ∷ lines-after [] s) (lines-after (line ++ (x ∷ [])) s)) ≤ length line + suc (length s)
+    go true h k = omega arith
+    go false h k = omega (arith, length-append line (x ∷ []))
+
+pub lines-few : (s : List ℕ) → length (lines s) ≤ length s
+lines-few s = omega (arith, lines-few-after [] s)
 
 -- ── lines written ─────────────────────────────────────────────────────────────────────────────
 

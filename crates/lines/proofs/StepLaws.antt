@@ -2,9 +2,9 @@
 -- the lines of the text, and then are done. Assumes nothing.
 use Prim.Native.Nat.{ℕ, zero, suc, _+_, _-_, _≤_, _<_}
 use native.Mathlib.Omega.{arith}
-use mathlib.Core.Path.{_≡_, refl, sym, _∙_}
+use mathlib.Core.Path.{_≡_, refl, sym, ap, _∙_}
 use mathlib.Core.Bool.{Bool, true, false, cond, _&&_}
-use mathlib.Core.List.{List, [], _∷_, nil≢cons, cons≢nil}
+use mathlib.Core.List.{List, [], _∷_}
 use lib.Dec.{eqb, leb, ltb}
 use lib.ListN.{length, take, drop, getD, length-drop, drop-of-length-le}
 use lib.Seq.{getD-drop, take-all}
@@ -19,7 +19,7 @@ use Rattle.lines.specs.declared.split.Next.{Next}
 use Rattle.lines.specs.declared.split.Next.the-variants.{Line, Done}
 use Rattle.lines.specs.Lines.{chomped, lines-after, lines}
 use Rattle.lines.specs.Step.{line-end, line-to, step, handed, steps}
-use Rattle.lines.proofs.LinesLaws.{lines-cut, lines-uncut}
+use Rattle.lines.proofs.LinesLaws.{lines-cut, lines-uncut, lines-few}
 
 -- ── where a line ends ─────────────────────────────────────────────────────────────────────────
 
@@ -134,17 +134,6 @@ means s at e f = rw (← f, e) (step-means s at)
 
 -- ── steps in a row ────────────────────────────────────────────────────────────────────────────
 
--- the lines from a cursor on, by as many steps as there are bytes from there, or by more
-pub steps-lines : (n : ℕ) (s : List ℕ) (at : ℕ) → length s - at ≤ n → steps n s at ≡ lines (drop at s)
-unfolding steps
-steps-lines zero s at h = sym (lines-past at s (omega arith))
-steps-lines (suc n) s at h = go (step s at) (step-means s at) (λ next on. steps-lines n s next (omega arith))
-  where
-    go : (r : Next) → Means s at r → ((next : ℕ) → at < next → steps n s next ≡ lines (drop next s))
-        → handed r (λ place next. textAt place s ∷ steps n s (next .at)) ≡ lines (drop at s)
-    go Done m more = sym m
-    go (Line place next) m more = rw (more (next .at) (m .on)) (sym (m .first))
-
 -- the cursor that an answer leaves, and the one after n steps
 abbrev pub moved : ℕ → Next → ℕ
 moved at Done = at
@@ -154,19 +143,24 @@ abbrev pub cursor-after : ℕ → List ℕ → ℕ → ℕ
 cursor-after zero s at = at
 cursor-after (suc n) s at = cursor-after n s (moved at (step s at))
 
--- after as many steps as there are lines, the step is done
-done-after : (s : List ℕ) (ls : List (List ℕ)) (at : ℕ) → lines (drop at s) ≡ ls → step s (cursor-after (length ls) s at) ≡ Done
-done-after s [] at e = go (step s at) (step-means s at)
+-- as many steps as there are lines from a cursor on, or more, hand out exactly these lines, in order, and then the step is done
+pub steps-exact : (n : ℕ) (s : List ℕ) (at : ℕ) → length (lines (drop at s)) ≤ n
+    → (steps n s at ≡ lines (drop at s)) × (step s (cursor-after n s at) ≡ Done)
+unfolding steps
+steps-exact zero s at h = go (step s at) (step-means s at)
   where
-    go : (r : Next) → Means s at r → r ≡ Done
-    go Done m = refl
-    go (Line place next) m = absurd (cons≢nil (sym (m .first) ∙ e))
-done-after s (l ∷ ls) at e = go (step s at) (step-means s at) (λ next. done-after s ls next)
+    go : (r : Next) → Means s at r → ([] ≡ lines (drop at s)) × (r ≡ Done)
+    go Done m = (sym m, refl)
+    go (Line place next) m = absurd (omega (arith, ap length (m .first)))
+steps-exact (suc n) s at h = go (step s at) (step-means s at) (λ next few. steps-exact n s next few)
   where
-    go : (r : Next) → Means s at r → ((next : ℕ) → lines (drop next s) ≡ ls → step s (cursor-after (length ls) s next) ≡ Done)
-        → step s (cursor-after (length ls) s (moved at r)) ≡ Done
-    go Done m more = absurd (nil≢cons (sym m ∙ e))
-    go (Line place next) m more = more (next .at) (cc (m .first))
+    go : (r : Next) → Means s at r
+        → ((next : ℕ) → length (lines (drop next s)) ≤ n → (steps n s next ≡ lines (drop next s)) × (step s (cursor-after n s next) ≡ Done))
+        → (handed r (λ place next. textAt place s ∷ steps n s (next .at)) ≡ lines (drop at s)) × (step s (cursor-after n s (moved at r)) ≡ Done)
+    go Done m more = (sym m, more at (omega (arith, ap length m)) .1)
+    go (Line place next) m more =
+        let rest = more (next .at) (omega (arith, ap length (m .first))) in (rw (rest .0) (sym (m .first)), rest .1)
 
-pub steps-done : (s : List ℕ) (at : ℕ) → step s (cursor-after (length (lines (drop at s))) s at) ≡ Done
-steps-done s at = done-after s (lines (drop at s)) at refl
+-- so as many steps as there are bytes serve
+pub steps-lines : (n : ℕ) (s : List ℕ) (at : ℕ) → length s - at ≤ n → steps n s at ≡ lines (drop at s)
+steps-lines n s at h = steps-exact n s at (omega (arith, lines-few (drop at s), length-drop at s)) .0
