@@ -6,6 +6,7 @@ use lib.Dec.{eqb, leb, ltb}
 use lib.ListN.{length, getD}
 use Rattle.scan.specs.Find.{found}
 use Rattle.scan.specs.Part.{textAt}
+use Rattle.scan.specs.declared.place.Place.{Place}
 use Rattle.lines.specs.declared.split.Cursor.{Cursor}
 use Rattle.lines.specs.declared.split.Next.{Next}
 use Rattle.lines.specs.declared.split.Next.the-variants.{Line, Done}
@@ -25,12 +26,12 @@ line-to s at k =
 unfoldable pub step : List ℕ → ℕ → Next
 step s at = cond (leb (length s) at) Done (line-to s at (found 10 at s))
 
--- the lines that n steps in a row hand out from a cursor on
-unfoldable mutual
-  pub steps : ℕ → List ℕ → ℕ → List (List ℕ)
-  steps zero s at = []
-  steps (suc n) s at = after n s (step s at)
+-- what comes of a line that a step hands out
+abbrev pub handed : Next → (Place → Cursor → List (List ℕ)) → List (List ℕ)
+handed Done f = []
+handed (Line place next) f = f place next
 
-  pub after : ℕ → List ℕ → Next → List (List ℕ)
-  after n s Done = []
-  after n s (Line place next) = textAt place s ∷ steps n s (next .at)
+-- the lines that n steps in a row hand out from a cursor on
+unfoldable pub steps : ℕ → List ℕ → ℕ → List (List ℕ)
+steps zero s at = []
+steps (suc n) s at = handed (step s at) (λ place next. textAt place s ∷ steps n s (next .at))

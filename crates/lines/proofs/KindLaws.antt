@@ -1,0 +1,107 @@
+-- Laws of `kind`, and what a comment or a directive of given texts reads back as. Assumes nothing.
+use Prim.Native.Nat.{ℕ, suc, _+_, _-_}
+use native.Mathlib.Omega.{arith}
+use mathlib.Core.Path.{_≡_, refl}
+use mathlib.Core.Logic.{_≢_}
+use mathlib.Core.Bool.{false, cond}
+use mathlib.Core.Option.{Option, none, some}
+use mathlib.Core.List.{List, [], _∷_, _++_, append-nil}
+use lib.Dec.{eqb}
+use lib.ListN.{length, drop, getD, length-append}
+use lib.Seq.{take-at, take-all, drop-append-add}
+use borrow.Author.Tests.{eq-eqb, ne-eqb}
+use Rattle.lists.specs.Bytes.{Every}
+use Rattle.scan.specs.Find.{index, seek}
+use Rattle.scan.specs.Part.{textAt}
+use Rattle.scan.specs.Word.{isSpace, space}
+use Rattle.scan.specs.declared.place.Place.{Place}
+use Rattle.scan.proofs.FindLaws.{index-append}
+use Rattle.lines.specs.declared.kind.Kind.the-variants.{Directive, Comment, Record}
+use Rattle.lines.specs.declared.comment.CommentText.the-variants as comment
+use Rattle.lines.specs.declared.directive.DirectiveText.the-variants as directive
+use Rattle.lines.specs.declared.directive.ValueText.{ValueText}
+use Rattle.lines.specs.declared.directive.ValueText.the-variants as value
+use Rattle.lines.specs.Kind.{kind, commentText, directiveText, valueOf}
+
+-- ── the kind ──────────────────────────────────────────────────────────────────────────────────
+
+-- by the first two bytes, where a byte that is missing counts as 0
+pub kind-by : (s : List ℕ) → kind s ≡ cond (eqb (getD s 0 0) 35) (cond (eqb (getD s 1 0) 35) Directive Comment) Record
+unfolding kind
+kind-by [] = refl
+kind-by (x ∷ []) = refl
+kind-by (x ∷ y ∷ s) = refl
+
+pub kind-directive : (s : List ℕ) → kind (35 ∷ 35 ∷ s) ≡ Directive
+kind-directive s = kind-by (35 ∷ 35 ∷ s)
+
+-- behind one `#` no other `#`, or nothing
+pub kind-comment : (s : List ℕ) → getD s 0 0 ≢ 35 → kind (35 ∷ s) ≡ Comment
+kind-comment s h = rw (kind-by (35 ∷ s), ne-eqb (getD s 0 0) 35 h)
+
+-- no `#` at the start, or nothing
+pub kind-record : (s : List ℕ) → getD s 0 0 ≢ 35 → kind s ≡ Record
+kind-record s h = rw (kind-by s, ne-eqb (getD s 0 0) 35 h)
+
+-- ── a comment ─────────────────────────────────────────────────────────────────────────────────
+
+-- the line is a comment of this text
+pub record ReadsComment (line text : List ℕ) : Type 0 where
+  pub place : Place
+  pub answer : commentText line ≡ comment.At place
+  pub reads : textAt place line ≡ text
+
+pub comment-reads : (s : List ℕ) → getD s 0 0 ≢ 35 → ReadsComment (35 ∷ s) s
+unfolding commentText
+comment-reads s h =
+    record {
+      place = record { start = 1; end = length (35 ∷ s) };
+      answer = rw (kind-comment s h);
+      reads = take-all (length (35 ∷ s) - 1) s (omega arith);
+    }
+
+-- ── a directive ───────────────────────────────────────────────────────────────────────────────
+
+-- the value's text, if there is a value
+abbrev pub valueRead : List ℕ → ValueText → Option (List ℕ)
+valueRead line value.Absent = none
+valueRead line (value.At p) = some (textAt p line)
+
+-- the line is a directive of this key and, maybe, this value
+pub record ReadsDirective (line key : List ℕ) (text : Option (List ℕ)) : Type 0 where
+  pub key-place : Place
+  pub value : ValueText
+  pub answer : directiveText line ≡ directive.Is key-place value
+  pub reads-key : textAt key-place line ≡ key
+  pub reads-value : valueRead line value ≡ text
+
+module _ (key : List ℕ) (inked : Every (λ x. isSpace x ≡ false) key) where
+  -- a key without white space runs to white space, or to the end
+  key-reads : (s : List ℕ) (text : Option (List ℕ)) → index isSpace s ≡ 0
+      → valueRead (35 ∷ 35 ∷ (key ++ s)) (valueOf (35 ∷ 35 ∷ (key ++ s)) (2 + length key)) ≡ text → ReadsDirective (35 ∷ 35 ∷ (key ++ s)) key text
+  unfolding directiveText seek
+  key-reads s text e v =
+      let k : space 2 (35 ∷ 35 ∷ (key ++ s)) ≡ 2 + length key = omega (arith, index-append isSpace key s inked) in
+      record {
+        key-place = record { start = 2; end = 2 + length key };
+        value = valueOf (35 ∷ 35 ∷ (key ++ s)) (2 + length key);
+        answer = rw (kind-directive (key ++ s), k);
+        reads-key = take-at key s (2 + length key - 2) (omega arith);
+        reads-value = v;
+      }
+
+  pub directive-reads-alone : ReadsDirective (35 ∷ 35 ∷ key) key none
+  unfolding index
+  directive-reads-alone =
+      rw append-nil at
+      (key-reads [] none refl (rw (eq-eqb (2 + length key) (length (35 ∷ 35 ∷ (key ++ []))) (omega (arith, length-append key [])))))
+
+  pub directive-reads : (text : List ℕ) → ReadsDirective (35 ∷ 35 ∷ (key ++ 32 ∷ text)) key (some text)
+  unfolding index isSpace
+  directive-reads text =
+      let line : List ℕ = 35 ∷ 35 ∷ (key ++ 32 ∷ text) in
+      let l = length-append key (32 ∷ text) in
+      let n : 2 + length key + 1 ≡ suc (suc (length key + 1)) = omega arith in
+      let d : drop (2 + length key + 1) line ≡ text = rw n (drop-append-add key (32 ∷ text) 1) in
+      key-reads (32 ∷ text) (some text) refl
+      (rw (ne-eqb (2 + length key) (length line) (omega arith), d, take-all (length line - (2 + length key + 1)) text (omega arith)))

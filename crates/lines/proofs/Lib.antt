@@ -1,0 +1,4 @@
+pub mod KindLaws
+pub mod LinesLaws
+pub mod StepLaws
+mod Samples
