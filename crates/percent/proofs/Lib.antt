@@ -1,3 +1,4 @@
+mod Samples
 pub mod CursorLaws
 pub mod PercentLaws
 pub mod SameLaws

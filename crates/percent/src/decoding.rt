@@ -22,17 +22,15 @@ fn decode_at(s: &[u8], i: usize) -> Unit
     ensures { λ r. ⌜ Decodes (now (s .entry)) i (r .byte) (r .next) ⌝ }
 {
     let x = s[i];
+    let kept = Unit {
+        byte: x,
+        next: i + 1,
+    };
     if x != b'%' {
-        return Unit {
-            byte: x,
-            next: i + 1,
-        };
+        return kept;
     }
     if s.len() - i < 3 {
-        return Unit {
-            byte: x,
-            next: i + 1,
-        };
+        return kept;
     }
     let high = super::hex::hex_value(s[i + 1]);
     let low = super::hex::hex_value(s[i + 2]);
@@ -42,10 +40,7 @@ fn decode_at(s: &[u8], i: usize) -> Unit
             next: i + 3,
         };
     }
-    Unit {
-        byte: x,
-        next: i + 1,
-    }
+    kept
 }
 
 // How long the text is when decoded. Runs without a percent sign count as they are.

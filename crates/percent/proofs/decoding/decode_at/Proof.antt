@@ -17,11 +17,11 @@ returns-2 c = let h = c .before .before .before .before .pre in stays _ _ h (dec
 small : (c : tie.Then3) → (c .before .before .before .hex-value .result < 16) × (c .before .hex-value2 .result < 16)
 small c = digits-small _ _ (c .if3 .taken)
 
-mul-t17 : tie.Need-mul-t17
-mul-t17 c = let h = small c in omega arith
+mul-t16 : tie.Need-mul-t16
+mul-t16 c = let h = small c in omega arith
 
-add-t18 : tie.Need-add-t18
-add-t18 c = let h = small c in omega arith
+add-t17 : tie.Need-add-t17
+add-t17 c = let h = small c in omega arith
 
 returns-3 : tie.Need-returns-3
 returns-3 c =
@@ -48,7 +48,6 @@ decode-at-spec =
     (λ c. search needs)
     returns
     (λ c. search needs)
-    (λ c. search needs)
     returns-2
     (λ c. search needs)
     (λ c. search needs)
@@ -56,9 +55,8 @@ decode-at-spec =
     (λ c. search needs)
     (λ c. search needs)
     (λ c κs. tt)
-    mul-t17
-    add-t18
+    mul-t16
+    add-t17
     (λ c. search needs)
     returns-3
-    (λ c. search needs)
     returns-4)
