@@ -18,10 +18,7 @@ pub struct DirectiveBuf {
 impl DirectiveBuf {
     /// A directive of a key and perhaps a value.
     pub fn new(key: &[u8], value: Option<Value>) -> Self {
-        Self {
-            key: key.into(),
-            value,
-        }
+        Self { key: key.into(), value }
     }
 
     /// The key.

@@ -6,9 +6,7 @@ pub mod sequence_region;
 
 use bstr::BString;
 
-pub use self::{
-    genome_build::GenomeBuild, gff_version::GffVersion, sequence_region::SequenceRegion,
-};
+pub use self::{genome_build::GenomeBuild, gff_version::GffVersion, sequence_region::SequenceRegion};
 
 /// A directive's value.
 #[derive(Clone, Debug, Eq, PartialEq)]

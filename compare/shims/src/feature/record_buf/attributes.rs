@@ -30,10 +30,6 @@ impl attributes::Attributes for &Attributes {
     }
 
     fn iter(&self) -> Box<dyn Iterator<Item = io::Result<(Cow<'_, BStr>, ValueRef<'_>)>> + '_> {
-        Box::new(
-            self.0
-                .iter()
-                .map(|(t, v)| Ok((Cow::Borrowed(t.as_ref()), v.into()))),
-        )
+        Box::new(self.0.iter().map(|(t, v)| Ok((Cow::Borrowed(t.as_ref()), v.into()))))
     }
 }

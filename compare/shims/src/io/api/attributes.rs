@@ -84,9 +84,7 @@ pub fn parse_value(raw: &[u8]) -> Value {
 /// Calls `Attributes::get` of record/attributes.rs.
 pub fn get(column: &[u8], tag: &[u8]) -> Option<Result<Value, u8>> {
     with_attributes(column, |attributes| {
-        attributes
-            .get(tag)
-            .map(|result| result.map(owned).map_err(|_| 5))
+        attributes.get(tag).map(|result| result.map(owned).map_err(|_| 5))
     })
 }
 

@@ -84,8 +84,7 @@ pub fn rewrite(mut text: &[u8]) -> (u64, u64) {
     while take_line(&mut text, &mut line.0) {
         dst.clear();
 
-        if line.kind() == Kind::Record && super::writing::rewrite_record(&line.0, &mut dst).is_ok()
-        {
+        if line.kind() == Kind::Record && super::writing::rewrite_record(&line.0, &mut dst).is_ok() {
             count += 1;
             sum += dst.len() as u64;
         }

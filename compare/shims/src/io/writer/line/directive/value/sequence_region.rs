@@ -4,10 +4,7 @@ use std::io::{self, Write};
 
 use crate::{directive_buf::value::SequenceRegion, io::writer::num};
 
-pub(crate) fn write_sequence_region<W>(
-    writer: &mut W,
-    sequence_region: &SequenceRegion,
-) -> io::Result<()>
+pub(crate) fn write_sequence_region<W>(writer: &mut W, sequence_region: &SequenceRegion) -> io::Result<()>
 where
     W: Write,
 {
