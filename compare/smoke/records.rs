@@ -30,6 +30,34 @@ pub fn columns(samples: &mut Samples) {
     samples.of("a+b", record::source(&line(2, "a+b")), "'a+b'");
     samples.of("%43DS", record::ty(&line(3, "%43DS")), "'CDS'");
 
+    let gene = line(9, "a=1");
+    let by_record = [
+        record::reference_sequence_name(&gene),
+        record::source(&gene),
+        record::ty(&gene),
+    ];
+    let by_bounds = record::columns(&gene).map(|c| [0, 1, 2].map(|i| Ok(c[i].to_vec())));
+    samples.of("record and bounds agree", Some(by_record) == by_bounds, "yes");
+
+    samples.title("score");
+
+    for (text, expected) in [
+        (".", "-"),
+        ("", "!17"),
+        ("1.5", "1.5"),
+        ("-0", "-0"),
+        ("1e3", "1000"),
+        ("%2E", "!17"),
+    ] {
+        samples.of(text, record::score(&line(6, text)), expected);
+    }
+
+    samples.title("score, where the Rust's grammar is wider");
+
+    for (text, expected) in [("1.", "1"), (".5", "0.5"), ("+1", "1"), ("inf", "inf"), ("nan", "NaN")] {
+        samples.of(text, record::score(&line(6, text)), expected);
+    }
+
     samples.title("strand: 0 to 3 for . + - ?");
 
     for (text, expected) in [

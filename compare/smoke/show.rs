@@ -44,7 +44,7 @@ macro_rules! numbers {
     )*};
 }
 
-numbers!(u8, u32, u64, usize);
+numbers!(u8, u32, u64, usize, f32);
 
 impl<T: Show + ?Sized> Show for &T {
     fn show(&self) -> String {
