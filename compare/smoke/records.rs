@@ -2,7 +2,7 @@
 
 use oracle::io::api::record;
 
-use crate::{Samples, show::Show};
+use crate::Samples;
 
 pub fn columns(samples: &mut Samples) {
     samples.title("bounds");
@@ -109,19 +109,18 @@ pub fn positions(samples: &mut Samples) {
         samples.of(text, answers, &format!("({expected}, {expected})"));
     }
 
-    samples.title("start, outside the comparison: signs, and more than 20 bytes");
+    samples.title("start, outside the comparison: signs, and more than 20 bytes, as Debian's lexical-core reads them");
 
-    for text in [
-        "+8",
-        "-8",
-        "+",
-        "-",
-        "-0",
-        "000000000000000000008",
-        "0000000000000000000000000000000000000000000000000008",
+    for (text, expected) in [
+        ("+8", "8"),
+        ("-8", "!2"),
+        ("+", "!2"),
+        ("-", "!2"),
+        ("-0", "!2"),
+        ("000000000000000000008", "8"),
+        ("018446744073709551616", "!2"),
     ] {
-        let answer = record::start(&line(4, text)).show();
-        samples.of(text, answer.as_str(), &answer);
+        samples.of(text, record::start(&line(4, text)), expected);
     }
 }
 
