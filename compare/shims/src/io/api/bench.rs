@@ -1,0 +1,100 @@
+//! Tight loops over the original functions, for measuring; each answers a sum, so that no work can be left out.
+
+use super::{Door, record};
+use crate::{Line, line::Kind};
+
+/// Lines, and the sum of their lengths without ends. Calls the inner `read_line` of io/reader.rs, one buffer for all lines.
+#[inline(never)]
+pub fn lines(mut text: &[u8]) -> (u64, u64) {
+    let mut buf = Vec::new();
+    let (mut count, mut sum) = (0, 0);
+
+    while take_line(&mut text, &mut buf) {
+        count += 1;
+        sum += buf.len() as u64;
+    }
+
+    (count, sum)
+}
+
+/// Lines with eight tabs, and the sum of all their ends. Calls `Bounds::index` of record/fields/bounds.rs on each line.
+#[inline(never)]
+pub fn columns(lines: &[&[u8]]) -> (u64, u64) {
+    let (mut count, mut sum) = (0, 0);
+
+    for bounds in lines.iter().filter_map(|line| record::bounds(line)) {
+        count += 1;
+        sum += bounds.iter().map(|&end| end as u64).sum::<u64>();
+    }
+
+    (count, sum)
+}
+
+/// Attributes, and the sum of the lengths of their raw tags and values, up to a refusal in each column.
+/// Calls `next` of record/attributes/field.rs on each column, `.` being text like any other.
+#[inline(never)]
+pub fn attributes(columns: &[&[u8]]) -> (u64, u64) {
+    let (mut count, mut sum) = (0, 0);
+
+    for column in columns {
+        let mut rest = *column;
+
+        while let Some(Ok((tag, value))) = Door::next(&mut rest) {
+            count += 1;
+            sum += (tag.len() + value.len()) as u64;
+        }
+    }
+
+    (count, sum)
+}
+
+/// Attributes of all records of a text, and the sum of the lengths of their raw tags and values, up to a refusal in each.
+/// Calls the inner `read_line` of io/reader.rs, `Line::kind` and `Line::as_record` of line.rs, `Record::attributes` of
+/// record.rs, and `next` of record/attributes/field.rs: splitting, columns and walk as the crate joins them.
+#[inline(never)]
+pub fn whole(mut text: &[u8]) -> (u64, u64) {
+    let mut line = Line::default();
+    let (mut count, mut sum) = (0, 0);
+
+    while take_line(&mut text, &mut line.0) {
+        let Some(Ok(record)) = line.as_record() else {
+            continue;
+        };
+
+        let attributes = record.attributes();
+        let mut rest = attributes.as_ref();
+
+        while let Some(Ok((tag, value))) = Door::next(&mut rest) {
+            count += 1;
+            sum += (tag.len() + value.len()) as u64;
+        }
+    }
+
+    (count, sum)
+}
+
+/// Records of a text that are written again, and the sum of the lengths of their new lines.
+/// Calls the inner `read_line` of io/reader.rs, `Line::kind` of line.rs, and `rewrite_record` of the API.
+#[inline(never)]
+pub fn rewrite(mut text: &[u8]) -> (u64, u64) {
+    let mut line = Line::default();
+    let mut dst = Vec::new();
+    let (mut count, mut sum) = (0, 0);
+
+    while take_line(&mut text, &mut line.0) {
+        dst.clear();
+
+        if line.kind() == Kind::Record && super::writing::rewrite_record(&line.0, &mut dst).is_ok() {
+            count += 1;
+            sum += dst.len() as u64;
+        }
+    }
+
+    (count, sum)
+}
+
+#[inline]
+fn take_line(text: &mut &[u8], buf: &mut Vec<u8>) -> bool {
+    buf.clear();
+    Door::read_line(text, buf).is_ok_and(|taken| taken > 0)
+}
