@@ -1,0 +1,4 @@
+pub mod Attributes
+pub mod Lookup
+pub mod Pieces
+pub mod Step
