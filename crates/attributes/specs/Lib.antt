@@ -2,3 +2,4 @@ pub mod Attributes
 pub mod Lookup
 pub mod Pieces
 pub mod Step
+pub mod Written

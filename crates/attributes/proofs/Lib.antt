@@ -1,0 +1,5 @@
+pub mod LookupLaws
+pub mod PiecesLaws
+pub mod ValueLaws
+pub mod WalkLaws
+pub mod WrittenLaws
