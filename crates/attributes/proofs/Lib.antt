@@ -3,3 +3,4 @@ pub mod PiecesLaws
 pub mod ValueLaws
 pub mod WalkLaws
 pub mod WrittenLaws
+mod Samples
