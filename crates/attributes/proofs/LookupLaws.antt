@@ -7,7 +7,6 @@ use Rattle.scan.specs.Part.{textAt}
 use Rattle.percent.specs.Percent.{decoded}
 use Rattle.percent.specs.Unit.{same}
 use Rattle.attributes.specs.declared.field.Field.{Field}
-use Rattle.attributes.specs.declared.lookup.Found.{Found}
 use Rattle.attributes.specs.declared.lookup.Found.the-variants.{At, Absent, Refused}
 use Rattle.attributes.specs.Attributes.{done, refused, walk-from}
 use Rattle.attributes.specs.Lookup.{lookup-in}

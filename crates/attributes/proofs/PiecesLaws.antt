@@ -1,5 +1,5 @@
 -- Laws of `pieces` and `joined`: joined pieces are cut where they were joined, and the pieces from a cursor on. Assumes nothing.
-use Prim.Native.Nat.{ℕ, zero, suc, _+_, _-_, _≤_, _<_}
+use Prim.Native.Nat.{ℕ, zero, suc, _+_, _-_, _≤_}
 use native.Mathlib.Omega.{arith}
 use native.Mathlib.Numerals.{add-one}
 use native.Mathlib.Nat.{eq-or-lt-of-le, sub-zero, suc-sub-suc, suc-add}

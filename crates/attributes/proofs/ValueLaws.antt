@@ -4,11 +4,13 @@ use native.Mathlib.Omega.{arith}
 use mathlib.Core.Path.{_≡_, refl, sym, ap}
 use mathlib.Core.Bool.{Bool, true, false, cond}
 use mathlib.Core.List.{List, [], _∷_}
-use lib.Dec.{eqb}
 use lib.ListN.{length, drop}
-use Rattle.scan.specs.Find.{found}
+use borrow.Author.Tests.{eqb-false}
+use Rattle.scan.specs.Find.{is, found}
 use Rattle.scan.specs.Part.{textAt}
 use Rattle.scan.specs.declared.place.Place.{Place}
+use Rattle.scan.proofs.FindLaws.{seek-le, seek-ge}
+use Rattle.scan.proofs.PartLaws.{length-part}
 use Rattle.attributes.specs.declared.value.ValueCursor.{ValueCursor}
 use Rattle.attributes.specs.declared.value.NextValue.{NextValue}
 use Rattle.attributes.specs.declared.value.NextValue.the-variants.{Is, Done}
@@ -22,10 +24,19 @@ use Rattle.attributes.proofs.PiecesLaws.{pieces-next, pieces-few}
 abbrev pub left : List ℕ → ValueCursor → List (List ℕ)
 left s c = cond (c .out) [] (pieces 44 (drop (c .at) s))
 
+-- the first of them at a place, and the cursor that leaves the others; where the place ends, by the length of its text
+pub record Cuts (s : List ℕ) (c : ValueCursor) (place : Place) (next : ValueCursor) : Type 0 where
+  pub first : left s c ≡ textAt place s ∷ left s next
+  pub start : place .start ≡ c .at
+  pub end : c .at ≤ length s → place .end ≡ c .at + length (textAt place s)
+  pub inside : place .end ≤ length s
+  pub behind : next .at ≡ place .end + 1
+  pub more : next .out ≡ false → next .at ≤ length s
+
 -- what an answer says of them
 abbrev pub Leaves : List ℕ → ValueCursor → NextValue → Type 0
 Leaves s c Done = left s c ≡ []
-Leaves s c (Is place next) = left s c ≡ textAt place s ∷ left s next
+Leaves s c (Is place next) = Cuts s c place next
 
 pub value-leaves : (s : List ℕ) (c : ValueCursor) → Leaves s c (nextValueOf s c)
 unfolding nextValueOf
@@ -33,7 +44,17 @@ value-leaves s c = go (c .out) refl
   where
     go : (t : Bool) → c .out ≡ t → Leaves s c (cond t Done (valueTo s (c .at) (found 44 (c .at) s)))
     go true e = rw e
-    go false e = rw e (pieces-next 44 (c .at) s)
+    go false e =
+        let k = found 44 (c .at) s in
+        let within : k ≤ length s = seek-le (is 44) (c .at) s in
+        record {
+          first = rw e (pieces-next 44 (c .at) s);
+          start = refl;
+          end = λ h. omega (arith, length-part (c .at) k s within, seek-ge (is 44) (c .at) s h);
+          inside = within;
+          behind = refl;
+          more = λ p. omega (arith, eqb-false k (length s) p);
+        }
 
 -- what a step answered, as its caller has it
 pub leaves : (s : List ℕ) (c : ValueCursor) {r k : NextValue} → r ≡ nextValueOf s c → r ≡ k → Leaves s c k
@@ -58,14 +79,14 @@ values-exact zero s c h = go (nextValueOf s c) (value-leaves s c)
   where
     go : (r : NextValue) → Leaves s c r → ([] ≡ left s c) × (r ≡ Done)
     go Done m = (sym m, refl)
-    go (Is place next) m = absurd (omega (arith, ap length m))
+    go (Is place next) m = absurd (omega (arith, ap length (m .first)))
 values-exact (suc n) s c h = go (nextValueOf s c) (value-leaves s c) (λ next few. values-exact n s next few)
   where
     go : (r : NextValue) → Leaves s c r
         → ((next : ValueCursor) → length (left s next) ≤ n → (valueSteps n s next ≡ left s next) × (nextValueOf s (cursor-after n s next) ≡ Done))
         → (handed r (λ place next. textAt place s ∷ valueSteps n s next) ≡ left s c) × (nextValueOf s (cursor-after n s (moved c r)) ≡ Done)
     go Done m more = (sym m, more c (omega (arith, ap length m)) .1)
-    go (Is place next) m more = let rest = more next (omega (arith, ap length m)) in (rw (rest .0) (sym m), rest .1)
+    go (Is place next) m more = let rest = more next (omega (arith, ap length (m .first))) in (rw (rest .0) (sym (m .first)), rest .1)
 
 -- where a value begins
 abbrev pub start : ValueCursor

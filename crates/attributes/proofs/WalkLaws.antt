@@ -20,7 +20,7 @@ use Rattle.scan.proofs.PartLaws.{length-part, part-found, drop-found}
 use Rattle.attributes.specs.declared.field.Field.{Field}
 use Rattle.attributes.specs.declared.field.Step.{Step}
 use Rattle.attributes.specs.declared.field.Step.the-variants.{Is, Done, Refused}
-use Rattle.attributes.specs.Attributes.{Walk, done, refused, then, tag-after, value-after, isDot, walk-from}
+use Rattle.attributes.specs.Attributes.{done, refused, then, tag-after, value-after, isDot, walk-from}
 use Rattle.attributes.specs.Step.{fieldTo, stepOf, stepped, steps}
 
 -- ── a text that begins with a tag or a value ──────────────────────────────────────────────────
@@ -87,6 +87,15 @@ module _ (s : List ℕ) (at : ℕ) where
   walk-stuck h e =
       walk-uncut (drop at s) (simp length-drop (omega arith)) (omega (arith, seek-at (is 61) at s (omega arith), length-drop at s))
 
+  -- nothing is left at the end, and beyond it
+  walk-past : length s ≤ at → walk-from s at ≡ done
+  unfolding walk-from tag-after
+  walk-past h = rw (drop-of-length-le s h) (go (isDot s))
+    where
+      go : (d : Bool) → cond d done done ≡ done
+      go true = refl
+      go false = refl
+
   -- ── one step ────────────────────────────────────────────────────────────────────────────────
 
   -- the walk meets the attribute that a step hands out, and stands at the next cursor then; its places by the lengths of its texts
@@ -123,13 +132,13 @@ module _ (s : List ℕ) (at : ℕ) where
       }
 
   pub step-meets : Meets (stepOf s at)
-  unfolding stepOf walk-from tag-after
+  unfolding stepOf walk-from
   step-meets = go (isDot s) refl (leb (length s) at) refl (eqb (found 61 at s) (length s)) refl
     where
       go : (d : Bool) → isDot s ≡ d → (l : Bool) → leb (length s) at ≡ l → (e : Bool) → eqb (found 61 at s) (length s) ≡ e
           → Meets (cond d Done (cond l Done (cond e Refused (Is (fieldTo s at (found 61 at s))))))
       go true p l q e r = rw p
-      go false p true q e r = rw (p, drop-of-length-le s {i = at} (leb-true (length s) at q))
+      go false p true q e r = walk-past (leb-true (length s) at q)
       go false p false q true r = rw p (walk-stuck (leb-false (length s) at q) (eqb-true (found 61 at s) (length s) r))
       go false p false q false r =
           field-meets p (leb-false (length s) at q) (omega (arith, eqb-false (found 61 at s) (length s) r, seek-le (is 61) at s))
@@ -140,16 +149,8 @@ module _ (s : List ℕ) (at : ℕ) where
 
 -- ── steps in a row ────────────────────────────────────────────────────────────────────────────
 
-walk-past : (s : List ℕ) (at : ℕ) → length s ≤ at → walk-from s at ≡ done
-unfolding walk-from tag-after
-walk-past s at h = rw (drop-of-length-le s h) (go (isDot s))
-  where
-    go : (d : Bool) → cond d done done ≡ done
-    go true = refl
-    go false = refl
-
--- half as many steps as there are bytes from a cursor on, or more, meet exactly what the walk meets: an attribute takes two bytes, but
--- the last one, which may be a `=` alone
+-- half as many steps as there are bytes from a cursor on, or more, meet exactly what the walk meets: each attribute takes two bytes at
+-- least, and the last one, which may be a `=` alone, takes one
 pub steps-walk : (n : ℕ) (s : List ℕ) (at : ℕ) → length s - at ≤ 2 * n → steps n s at ≡ walk-from s at
 unfolding steps
 steps-walk zero s at h = sym (walk-past s at (omega arith))

@@ -25,8 +25,9 @@ no-dot [] (y ∷ s) = refl
 no-dot (x ∷ []) s = refl
 no-dot (x ∷ y ∷ t) s = refl
 
-encoded-lack : (set : ℕ → Bool) (c : ℕ) → set c ≡ true → c ≢ 37 → isHex c ≡ false → (vs : List (List ℕ)) → Every Bytes vs → Every (Lacks c) (map (encoded set) vs)
-encoded-lack set c e s d = every-map (encoded set) Bytes (Lacks c) (encoded-lacks set c e s d)
+-- each of some encoded texts lacks an escaped byte
+each-lacks : (set : ℕ → Bool) (c : ℕ) → set c ≡ true → c ≢ 37 → isHex c ≡ false → (vs : List (List ℕ)) → Every Bytes vs → Every (Lacks c) (map (encoded set) vs)
+each-lacks set c e s d = every-map (encoded set) Bytes (Lacks c) (encoded-lacks set c e s d)
 
 -- ── there and back ────────────────────────────────────────────────────────────────────────────
 
@@ -39,7 +40,7 @@ module _ (set : ℕ → Bool) (percent : set 37 ≡ true) (semicolon : set 59 �
   unfolding isHex
   values-back [] held h = absurd (held refl)
   values-back (v ∷ vs) held h =
-      rw (pieces-joined 44 (encoded set v) (map (encoded set) vs) (encoded-lack set 44 comma (omega arith) refl (v ∷ vs) h))
+      rw (pieces-joined 44 (encoded set v) (map (encoded set) vs) (each-lacks set 44 comma (omega arith) refl (v ∷ vs) h))
       (map-decoded (v ∷ vs) h)
 
   attribute-back : (a : Attribute) → Writable a → attribute (encoded set (a .tag)) (raw set a) ≡ a
@@ -50,7 +51,7 @@ module _ (set : ℕ → Bool) (percent : set 37 ≡ true) (semicolon : set 59 �
   unfolding written isHex
   walk-first a s w =
       walk-attribute (encoded set (a .tag)) (raw set a) s (encoded-lacks set 61 equals (omega arith) refl (a .tag) (w .tag-bytes))
-      (every-joined (λ x. x ≢ 59) 44 (omega arith) (map (encoded set) (a .values)) (encoded-lack set 59 semicolon (omega arith) refl (a .values) (w .value-bytes)))
+      (every-joined (λ x. x ≢ 59) 44 (omega arith) (map (encoded set) (a .values)) (each-lacks set 59 semicolon (omega arith) refl (a .values) (w .value-bytes)))
 
   walk-more : (a : Attribute) (more : List Attribute) → Every Writable (a ∷ more)
       → attributes (value-after (encoded set (a .tag)) (raw set a) (prefixed 59 (map (written set) more))) ≡ some (a ∷ more)
@@ -81,7 +82,7 @@ module _ (set : ℕ → Bool) (c : ℕ) (escaped : set c ≡ true) (digit : isHe
   unfolding written
   written-lacks a w =
       every-append (λ x. x ≢ c) (encoded set (a .tag)) (61 ∷ raw set a) (encoded-lacks set c escaped percent-not digit (a .tag) (w .tag-bytes))
-      (sign .1 .1 .1 .1 .0, every-joined (λ x. x ≢ c) 44 (sign .1 .0) (map (encoded set) (a .values)) (encoded-lack set c escaped percent-not digit (a .values) (w .value-bytes)))
+      (sign .1 .1 .1 .1 .0, every-joined (λ x. x ≢ c) 44 (sign .1 .0) (map (encoded set) (a .values)) (each-lacks set c escaped percent-not digit (a .values) (w .value-bytes)))
 
   pub column-lacks : (l : List Attribute) → Every Writable l → Lacks c (column set l)
   unfolding column
