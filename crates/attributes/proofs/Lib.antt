@@ -1,0 +1,6 @@
+pub mod LookupLaws
+pub mod PiecesLaws
+pub mod ValueLaws
+pub mod WalkLaws
+pub mod WrittenLaws
+mod Samples

@@ -1,0 +1,163 @@
+-- Laws of the walk over column 9: how it goes on at a cursor, what a step means for it, and that steps in a row meet exactly what it
+-- meets. A step is a function of the column and the cursor, so after a refusal, which moves no cursor, the next step answers the same.
+-- Assumes nothing.
+use Prim.Native.Nat.{ℕ, zero, suc, _+_, _-_, _*_, _≤_, _<_}
+use native.Mathlib.Omega.{arith}
+use native.Mathlib.Nat.{eq-or-lt-of-le}
+use mathlib.Core.Path.{_≡_, refl, sym, ap, _∙_}
+use mathlib.Core.Logic.{⊎-elim}
+use mathlib.Core.Bool.{Bool, true, false, cond}
+use mathlib.Core.List.{List, [], _∷_, _++_, append-assoc, append-nil}
+use lib.Dec.{eqb, leb}
+use lib.ListN.{length, take, drop, length-drop, drop-of-length-le}
+use lib.Seq.{take-length}
+use borrow.Author.Tests.{ne-eqb, leb-true, leb-false, eqb-true, eqb-false}
+use Rattle.lists.specs.Bytes.{Lacks}
+use Rattle.scan.specs.Find.{index, is, found}
+use Rattle.scan.specs.Part.{part, textAt}
+use Rattle.scan.proofs.FindLaws.{index-le, seek-at, seek-le, seek-ge, lacks-before, cut-at, lacks-all}
+use Rattle.scan.proofs.PartLaws.{length-part, part-found, drop-found}
+use Rattle.attributes.specs.declared.field.Field.{Field}
+use Rattle.attributes.specs.declared.field.Step.{Step}
+use Rattle.attributes.specs.declared.field.Step.the-variants.{Is, Done, Refused}
+use Rattle.attributes.specs.Attributes.{done, refused, then, tag-after, value-after, isDot, walk-from}
+use Rattle.attributes.specs.Step.{fieldTo, stepOf, stepped, steps}
+
+-- ── a text that begins with a tag or a value ──────────────────────────────────────────────────
+
+-- bytes that do not end a tag belong to it
+pub tag-begin : (t s tag : List ℕ) → Lacks 61 t → tag-after tag (t ++ s) ≡ tag-after (tag ++ t) s
+unfolding tag-after
+tag-begin [] s tag h = rw append-nil
+tag-begin (x ∷ t) s tag h = rw (ne-eqb x 61 (h .0), tag-begin t s (tag ++ (x ∷ [])) (h .1), append-assoc)
+
+-- and so for a value
+pub value-begin : (v s tag value : List ℕ) → Lacks 59 v → value-after tag value (v ++ s) ≡ value-after tag (value ++ v) s
+unfolding value-after
+value-begin [] s tag value h = rw append-nil
+value-begin (x ∷ v) s tag value h = rw (ne-eqb x 59 (h .0), value-begin v s tag (value ++ (x ∷ [])) (h .1), append-assoc)
+
+-- one attribute, and what follows
+pub walk-attribute : (t v s : List ℕ) → Lacks 61 t → Lacks 59 v → tag-after [] ((t ++ 61 ∷ v) ++ s) ≡ value-after t v s
+unfolding tag-after
+walk-attribute t v s ht hv = rw append-assoc (tag-begin t (61 ∷ (v ++ s)) [] ht ∙ value-begin v s t [] hv)
+
+-- ── where `=` and `;` are looked for ──────────────────────────────────────────────────────────
+
+-- a tag runs to the next `=`
+walk-cut : (s : List ℕ) → let k = index (is 61) s in k < length s → tag-after [] s ≡ value-after (take k s) [] (drop (suc k) s)
+unfolding tag-after
+walk-cut s h =
+    let k = index (is 61) s in
+    ap (tag-after []) (cut-at 61 s h) ∙ tag-begin (take k s) (61 ∷ drop (suc k) s) [] (lacks-before 61 s)
+
+-- text without `=` is refused
+walk-uncut : (s : List ℕ) → 0 < length s → index (is 61) s ≡ length s → tag-after [] s ≡ refused
+unfolding tag-after
+walk-uncut [] h e = absurd (omega arith)
+walk-uncut (x ∷ s) h e = ap (tag-after []) (sym (append-nil (x ∷ s))) ∙ tag-begin (x ∷ s) [] [] (lacks-all 61 (x ∷ s) e)
+
+-- a value runs to the next `;` or the end, and a walk behind the end is done
+value-cut : (tag s : List ℕ) → let k = index (is 59) s in value-after tag [] s ≡ then tag (take k s) (tag-after [] (drop (suc k) s))
+unfolding tag-after
+value-cut tag s =
+    let k = index (is 59) s in
+    ⊎-elim
+    (λ e.
+    ap (value-after tag []) (sym (append-nil s))
+    ∙ value-begin s [] tag [] (lacks-all 59 s e)
+    ∙ rw (e, take-length s, drop-of-length-le s {i = suc (length s)} (omega arith)))
+    (λ h. ap (value-after tag []) (cut-at 59 s h) ∙ value-begin (take k s) (59 ∷ drop (suc k) s) tag [] (lacks-before 59 s))
+    (eq-or-lt-of-le (index-le (is 59) s))
+
+module _ (s : List ℕ) (at : ℕ) where
+  -- one attribute from a cursor on, and what follows
+  pub walk-next : at ≤ length s
+      → let e = found 61 at s in
+      let v = found 59 (e + 1) s in
+      e < length s → tag-after [] (drop at s) ≡ then (part at e s) (part (e + 1) v s) (tag-after [] (drop (v + 1) s))
+  walk-next h l =
+      let e = found 61 at s in
+      walk-cut (drop at s) (omega (arith, seek-at (is 61) at s h, length-drop at s))
+      ∙ rw (part-found 61 at s h, drop-found 61 at s h)
+      (value-cut (part at e s) (drop (e + 1) s) ∙ rw (part-found 59 (e + 1) s (omega arith), drop-found 59 (e + 1) s (omega arith)))
+
+  -- text from a cursor on without `=`
+  pub walk-stuck : at < length s → found 61 at s ≡ length s → tag-after [] (drop at s) ≡ refused
+  walk-stuck h e =
+      walk-uncut (drop at s) (simp length-drop (omega arith)) (omega (arith, seek-at (is 61) at s (omega arith), length-drop at s))
+
+  -- nothing is left at the end, and beyond it
+  walk-past : length s ≤ at → walk-from s at ≡ done
+  unfolding walk-from tag-after
+  walk-past h = rw (drop-of-length-le s h) (go (isDot s))
+    where
+      go : (d : Bool) → cond d done done ≡ done
+      go true = refl
+      go false = refl
+
+  -- ── one step ────────────────────────────────────────────────────────────────────────────────
+
+  -- the walk meets the attribute that a step hands out, and stands at the next cursor then; its places by the lengths of its texts
+  pub record Hands (field : Field) : Type 0 where
+    pub met : walk-from s at ≡ then (textAt (field .tag) s) (textAt (field .value) s) (walk-from s (field .next))
+    pub tag-start : field .tag .start ≡ at
+    pub tag-end : field .tag .end ≡ at + length (textAt (field .tag) s)
+    pub value-start : field .value .start ≡ at + length (textAt (field .tag) s) + 1
+    pub value-end : field .value .end ≡ field .value .start + length (textAt (field .value) s)
+    pub next : field .next ≡ field .value .end + 1
+    pub inside : field .value .end ≤ length s
+
+  -- what an answer says of the walk from a cursor on
+  abbrev pub Meets : Step → Type 0
+  Meets Done = walk-from s at ≡ done
+  Meets Refused = walk-from s at ≡ refused
+  Meets (Is field) = Hands field
+
+  field-meets : isDot s ≡ false → at < length s → found 61 at s < length s → Hands (fieldTo s at (found 61 at s))
+  unfolding walk-from
+  field-meets p h i =
+      let e = found 61 at s in
+      let v = found 59 (e + 1) s in
+      let t = length-part at e s (omega arith) in
+      let g = seek-ge (is 61) at s (omega arith) in
+      record {
+        met = rw p (walk-next (omega arith) i);
+        tag-start = refl;
+        tag-end = omega arith;
+        value-start = omega arith;
+        value-end = omega (arith, length-part (e + 1) v s (seek-le (is 59) (e + 1) s), seek-ge (is 59) (e + 1) s (omega arith));
+        next = refl;
+        inside = seek-le (is 59) (e + 1) s;
+      }
+
+  pub step-meets : Meets (stepOf s at)
+  unfolding stepOf walk-from
+  step-meets = go (isDot s) refl (leb (length s) at) refl (eqb (found 61 at s) (length s)) refl
+    where
+      go : (d : Bool) → isDot s ≡ d → (l : Bool) → leb (length s) at ≡ l → (e : Bool) → eqb (found 61 at s) (length s) ≡ e
+          → Meets (cond d Done (cond l Done (cond e Refused (Is (fieldTo s at (found 61 at s))))))
+      go true p l q e r = rw p
+      go false p true q e r = walk-past (leb-true (length s) at q)
+      go false p false q true r = rw p (walk-stuck (leb-false (length s) at q) (eqb-true (found 61 at s) (length s) r))
+      go false p false q false r =
+          field-meets p (leb-false (length s) at q) (omega (arith, eqb-false (found 61 at s) (length s) r, seek-le (is 61) at s))
+
+  -- what a step answered, as its caller has it
+  pub meets : {r k : Step} → r ≡ stepOf s at → r ≡ k → Meets k
+  meets e f = rw (← f, e) step-meets
+
+-- ── steps in a row ────────────────────────────────────────────────────────────────────────────
+
+-- half as many steps as there are bytes from a cursor on, or more, meet exactly what the walk meets: each attribute takes two bytes at
+-- least, and the last one, which may be a `=` alone, takes one
+pub steps-walk : (n : ℕ) (s : List ℕ) (at : ℕ) → length s - at ≤ 2 * n → steps n s at ≡ walk-from s at
+unfolding steps
+steps-walk zero s at h = sym (walk-past s at (omega arith))
+steps-walk (suc n) s at h = go (stepOf s at) (step-meets s at) (λ next more. steps-walk n s next more)
+  where
+    go : (r : Step) → Meets s at r → ((next : ℕ) → length s - next ≤ 2 * n → steps n s next ≡ walk-from s next)
+        → stepped r (λ field. then (textAt (field .tag) s) (textAt (field .value) s) (steps n s (field .next))) ≡ walk-from s at
+    go Done m rest = sym m
+    go Refused m rest = sym m
+    go (Is field) m rest = rw (rest (field .next) (omega arith)) (sym (m .met))
