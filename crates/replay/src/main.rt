@@ -11,8 +11,6 @@ use lines::Cursor;
 use lines::Next;
 use words::Case;
 
-ghost use Prim.Native.Nat.{_≤_};
-ghost use lib.ListN.{length};
 
 // One case: the letter says which function is called.
 fn answer(line: &[u8], out: &mut [u8], at: usize) -> usize {
@@ -31,31 +29,36 @@ fn answer(line: &[u8], out: &mut [u8], at: usize) -> usize {
     }
 }
 
-// The cases of a block, which holds whole lines; blank ones fill it up.
-fn replay(cases: &[u8], out: &mut [u8]) -> usize
-    ensures { λ r. ⌜ r ≤ length (now (out .exit)) ⌝ }
-{
+// One line of the list: a blank one fills up a block, and has no answer.
+fn turn(line: &[u8]) {
+    if line.len() == 0 {
+        return;
+    }
+    let mut out = io::large_buffer();
+    let end = answer(line, &mut out, 0);
+    let all = buffer::lay_byte(b'\n', &mut out, end);
+    io::write_all(1, scan::part(&out, 0, all));
+}
+
+// The cases of a block, which holds whole lines.
+fn replay(cases: &[u8]) {
     let mut cursor = Cursor::new();
-    let mut at = 0;
     loop {
         match lines::next_line(cases, cursor) {
             Next::Line(place, next) => {
-                at = answer(scan::text(cases, place), out, at);
-                at = buffer::lay_byte(b'\n', out, at);
+                turn(scan::text(cases, place));
                 cursor = next;
             }
-            Next::Done => return at,
+            Next::Done => return,
         }
     }
 }
 
-// One block of the list, read, replayed and answered; whether there was one.
+// One block of the list, read and replayed; whether there was one.
 fn block() -> bool {
     let mut cases = io::large_buffer();
-    let mut out = io::large_buffer();
     let n = io::read_full(0, &mut cases);
-    let end = replay(&cases[..n], &mut out);
-    io::write_all(1, scan::part(&out, 0, end));
+    replay(&cases[..n]);
     0 < n
 }
 

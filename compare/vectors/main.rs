@@ -1,0 +1,31 @@
+//! Makes the list that the program `replay` replays: cases, and the answers that the Rust gives to them.
+//!
+//!     vectors CASES ANSWERS
+//!
+//! Each case is a line, a letter and its words; crates/replay/src says what the letters are. The list is cut into blocks of
+//! 65,536 bytes, which end in blank lines, since the program reads one block at a time.
+
+mod leaves;
+mod list;
+
+use std::{env, fs, process};
+
+use list::List;
+
+fn main() {
+    let words: Vec<String> = env::args().skip(1).collect();
+    let [cases, answers] = words.as_slice() else {
+        eprintln!("usage: vectors CASES ANSWERS");
+        process::exit(2);
+    };
+
+    let mut list = List::default();
+    leaves::finding(&mut list);
+    leaves::numbers(&mut list);
+    leaves::decoding(&mut list);
+    leaves::encoding(&mut list);
+
+    println!("{} cases", list.len());
+    fs::write(cases, list.cases()).expect("the cases are written");
+    fs::write(answers, list.answers()).expect("the answers are written");
+}
