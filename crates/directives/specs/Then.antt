@@ -10,7 +10,7 @@ use Rattle.numbers.specs.declared.read.Number.{Number}
 use Rattle.numbers.specs.declared.read.Number.the-variants.{Value, Invalid}
 
 -- the next word from a cursor on; refused where none is left
-abbrev pub wordThen : {A : Type 0} → A → List ℕ → ℕ → (Place → A) → A
+unfoldable pub wordThen : {A : Type 0} → A → List ℕ → ℕ → (Place → A) → A
 wordThen refused s at f = cond (eqb (word s at .start) (length s)) refused (f (word s at))
 
 -- a number; refused where it is not valid
