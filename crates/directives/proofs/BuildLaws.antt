@@ -14,7 +14,7 @@ use Rattle.scan.specs.Word.{isSpace}
 use Rattle.directives.specs.declared.genome_build.BuildRead.the-variants.{Is, Refused}
 use Rattle.directives.specs.GenomeBuild.{buildOf}
 use Rattle.directives.specs.Then.{wordThen}
-use Rattle.directives.proofs.WordLaws.{Next, word-some, word-next}
+use Rattle.directives.proofs.WordLaws.{word-some, word-first, word-behind}
 
 pub build-none : (s : List ℕ) → length s ≡ 0 → Refused 6 ≡ buildOf s
 unfolding buildOf
@@ -26,3 +26,17 @@ pub build-is : (s : List ℕ) → length s ≢ 0
 unfolding buildOf
 build-is [] h = absurd (h refl)
 build-is (x ∷ s) h = refl
+
+-- ── read back ─────────────────────────────────────────────────────────────────────────────────
+
+pub build-reads : (source name : List ℕ) → Every (λ x. isSpace x ≡ false) source → 0 < length source → Every (λ x. isSpace x ≡ false) name → 0 < length name
+    → (buildOf (source ++ 32 ∷ name) ≡ Is (record { source = record { start = 0; end = length source }; name = record { start = length source + 1; end = length source + 1 + length name } }))
+    × (textAt (record { start = 0; end = length source }) (source ++ 32 ∷ name) ≡ source)
+    × (textAt (record { start = length source + 1; end = length source + 1 + length name }) (source ++ 32 ∷ name) ≡ name)
+unfolding index isSpace
+build-reads source name inked some inked' some' =
+    let text : List ℕ = source ++ 32 ∷ name in
+    let s = word-first source (32 ∷ name) inked some refl in
+    let n = word-behind name [] inked' some' refl source text (length source) (rw append-nil) refl in
+    let long : length text ≢ 0 = λ z. omega (arith, length-append source (32 ∷ name)) in
+    (rw build-is (sym (word-some _ _ _ _ (s .is) (s .some) (word-some _ _ _ _ (n .is) (n .some) refl))), s .reads, n .reads)

@@ -68,6 +68,15 @@ module _ (a gap w rest : List ℕ) (white : Every (λ x. isInk x ≡ false) gap)
         reads = rw k (take-at w rest (place .end - place .start) (omega arith));
       }
 
+-- the first word of a text, and the next one behind one space
+module _ (w rest : List ℕ) (inked : Every (λ x. isSpace x ≡ false) w) (some : 0 < length w) (ends : index isSpace rest ≡ 0) where
+  pub word-first : Next (w ++ rest) 0 w (record { start = 0; end = length w })
+  word-first = word-next [] [] w rest tt inked some ends 0 _ refl (omega arith) (omega arith)
+
+  pub word-behind : (a text : List ℕ) (at : ℕ) → text ≡ a ++ 32 ∷ (w ++ rest) → at ≡ length a → Next text at w (record { start = at + 1; end = at + 1 + length w })
+  unfolding isSpace
+  word-behind a text at e l = rw e (word-next a (32 ∷ []) w rest (refl, tt) inked some ends at _ l refl refl)
+
 -- ── digits are no white space ─────────────────────────────────────────────────────────────────
 
 -- a test that no digit passes fails on each byte of a number as it is written
