@@ -4,17 +4,16 @@ use native.Mathlib.Omega.{arith}
 use mathlib.Core.Path.{_≡_, refl, sym}
 use mathlib.Core.Logic.{_≢_}
 use mathlib.Core.Bool.{false}
-use mathlib.Core.List.{List, [], _∷_, _++_, append-nil}
-use lib.ListN.{length, length-append}
+use mathlib.Core.List.{List, [], _∷_, _++_}
+use lib.ListN.{length}
 use Rattle.lists.specs.Bytes.{Every}
-use Rattle.scan.specs.declared.place.Place.{Place}
 use Rattle.scan.specs.Find.{index}
 use Rattle.scan.specs.Part.{textAt}
 use Rattle.scan.specs.Word.{isSpace}
 use Rattle.directives.specs.declared.genome_build.BuildRead.the-variants.{Is, Refused}
 use Rattle.directives.specs.GenomeBuild.{buildOf}
 use Rattle.directives.specs.Then.{wordThen}
-use Rattle.directives.proofs.WordLaws.{word-some, word-first, word-behind}
+use Rattle.directives.proofs.WordLaws.{next-then, word-first, word-last}
 
 pub build-none : (s : List ℕ) → length s ≡ 0 → Refused 6 ≡ buildOf s
 unfolding buildOf
@@ -35,8 +34,7 @@ pub build-reads : (source name : List ℕ) → Every (λ x. isSpace x ≡ false)
     × (textAt (record { start = length source + 1; end = length source + 1 + length name }) (source ++ 32 ∷ name) ≡ name)
 unfolding index isSpace
 build-reads source name inked some inked' some' =
-    let text : List ℕ = source ++ 32 ∷ name in
-    let s = word-first source (32 ∷ name) inked some refl in
-    let n = word-behind name [] inked' some' refl source text (length source) (rw append-nil) refl in
-    let long : length text ≢ 0 = λ z. omega (arith, length-append source (32 ∷ name)) in
-    (rw build-is (sym (word-some _ _ _ _ (s .is) (s .some) (word-some _ _ _ _ (n .is) (n .some) refl))), s .reads, n .reads)
+    let s = word-first source inked some (32 ∷ name) refl in
+    let n = word-last name inked' some' source (length source) refl in
+    let long : length (source ++ 32 ∷ name) ≢ 0 = λ z. s .some (sym z) in
+    (rw build-is (sym (next-then _ _ s (next-then _ _ n refl))), s .reads, n .reads)

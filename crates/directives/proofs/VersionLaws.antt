@@ -3,17 +3,15 @@ use Prim.Native.Nat.{ℕ, zero, suc, _+_, _-_, _≤_, _<_}
 use native.Mathlib.Omega.{arith}
 use mathlib.Core.Path.{_≡_, refl, sym, ap, _∙_}
 use mathlib.Core.Logic.{_⊎_, inl, inr, _≢_}
-use mathlib.Core.Bool.{Bool, true, false, cond}
+use mathlib.Core.Bool.{Bool, cond}
 use mathlib.Core.List.{List, [], _∷_, _++_, append-nil}
-use lib.Dec.{eqb}
-use lib.ListN.{length, take, drop, length-append, length-drop, drop-of-length-le}
+use lib.ListN.{length, drop, length-append, length-drop, drop-of-length-le}
 use lib.Seq.{take-all, take-at, drop-append-add}
 use borrow.Author.Tests.{eq-eqb, ne-eqb}
-use Rattle.lists.specs.Bytes.{Every}
 use Rattle.lists.proofs.OrderLaws.{le-or-lt}
 use Rattle.scan.specs.Find.{index, seek, is, found}
 use Rattle.scan.specs.Part as scan
-use Rattle.scan.proofs.FindLaws.{index-append, seek-at, seek-end}
+use Rattle.scan.proofs.FindLaws.{index-append, seek-end}
 use Rattle.scan.proofs.PartLaws.{part-found, drop-found, part-past}
 use Rattle.numbers.specs.declared.read.Number.{Number}
 use Rattle.numbers.specs.declared.read.Number.the-variants.{Value, Invalid}
@@ -103,41 +101,41 @@ left-part at s = sym (take-all (length s - at) (drop at s) (simp length-drop (om
 
 -- ── read back ─────────────────────────────────────────────────────────────────────────────────
 
-module _ (n : ℕ) (h : n ≤ most32) where
-  -- a number, then a dot or the end
-  written-dot : (rest : List ℕ) → index (is 46) rest ≡ 0 → length (decimal n) ≡ found 46 0 (decimal n ++ rest)
+-- a number, then a dot or the end
+module _ (n : ℕ) (rest : List ℕ) where
+  written-dot : index (is 46) rest ≡ 0 → length (decimal n) ≡ found 46 0 (decimal n ++ rest)
   unfolding seek
-  written-dot rest e =
+  written-dot e =
       omega (arith, index-append (is 46) (decimal n) rest (decimal-fails (is 46) (λ x g k. ne-eqb x 46 (λ z. omega arith)) n))
 
-  written-part : (rest : List ℕ) → decimal n ≡ scan.part 0 (length (decimal n)) (decimal n ++ rest)
-  written-part rest = sym (take-at (decimal n) rest (length (decimal n) - 0) (omega arith))
+  written-part : decimal n ≡ scan.part 0 (length (decimal n)) (decimal n ++ rest)
+  written-part = sym (take-at (decimal n) rest (length (decimal n) - 0) (omega arith))
 
-  written-last : (refused : VersionRead) (last : ℕ → VersionRead) (more : ℕ → List ℕ → VersionRead) → partThen refused last more (decimal n) ≡ last n
+module _ (refused : VersionRead) (last : ℕ → VersionRead) (more : ℕ → List ℕ → VersionRead) (n : ℕ) (h : n ≤ most32) where
+  written-last : partThen refused last more (decimal n) ≡ last n
   unfolding index
-  written-last refused last more =
+  written-last =
       rw append-nil at
-      (sym (part-last refused last more 0 (decimal n ++ []) (written-dot [] refl) (written-part []) (sym (version-part-decimal n h)) refl (omega (arith, length-append (decimal n) []))))
+      (sym (part-last refused last more 0 (decimal n ++ []) (written-dot n [] refl) (written-part n []) (sym (version-part-decimal n h)) refl (omega (arith, length-append (decimal n) []))))
 
-  written-more : (refused : VersionRead) (last : ℕ → VersionRead) (more : ℕ → List ℕ → VersionRead) (s : List ℕ)
-      → partThen refused last more (decimal n ++ 46 ∷ s) ≡ more n s
+  written-more : (s : List ℕ) → partThen refused last more (decimal n ++ 46 ∷ s) ≡ more n s
   unfolding index
-  written-more refused last more s =
+  written-more s =
       rw (drop-append-add (decimal n) (46 ∷ s) 1) at
-      (sym (part-more refused last more 0 (decimal n ++ 46 ∷ s) (written-dot (46 ∷ s) refl) (written-part (46 ∷ s)) (sym (version-part-decimal n h)) refl (λ g. omega (arith, length-append (decimal n) (46 ∷ s)))))
+      (sym (part-more refused last more 0 (decimal n ++ 46 ∷ s) (written-dot n (46 ∷ s) refl) (written-part n (46 ∷ s)) (sym (version-part-decimal n h)) refl (λ g. omega (arith, length-append (decimal n) (46 ∷ s)))))
 
 module _ (major : ℕ) (h : major ≤ most32) where
   pub version-major : versionOf (decimal major) ≡ version major part.Absent part.Absent
-  version-major = rw (version-is (decimal major) (λ e. omega (arith, decimal-some major))) (written-last major h _ _ _)
+  version-major = rw (version-is (decimal major) (λ e. omega (arith, decimal-some major))) (written-last _ _ _ major h)
 
   -- a version, whatever follows the first dot
   more-reads : (s : List ℕ) → versionOf (decimal major ++ 46 ∷ s) ≡ minorOf major s
   more-reads s =
-      rw (version-is (decimal major ++ 46 ∷ s) (λ e. omega (arith, length-append (decimal major) (46 ∷ s)))) (written-more major h _ _ _ s)
+      rw (version-is (decimal major ++ 46 ∷ s) (λ e. omega (arith, length-append (decimal major) (46 ∷ s)))) (written-more _ _ _ major h s)
 
   module _ (minor : ℕ) (g : minor ≤ most32) where
     pub version-minor : versionOf (decimal major ++ 46 ∷ decimal minor) ≡ version major (part.Is minor) part.Absent
-    version-minor = more-reads (decimal minor) ∙ minor-is major (decimal minor) ∙ written-last minor g _ _ _
+    version-minor = more-reads (decimal minor) ∙ minor-is major (decimal minor) ∙ written-last _ _ _ minor g
 
     pub version-patch : (patch : ℕ) → patch ≤ most32
         → versionOf (decimal major ++ 46 ∷ (decimal minor ++ 46 ∷ decimal patch)) ≡ version major (part.Is minor) (part.Is patch)
@@ -145,5 +143,5 @@ module _ (major : ℕ) (h : major ≤ most32) where
     version-patch patch k =
         more-reads (decimal minor ++ 46 ∷ decimal patch)
         ∙ minor-is major (decimal minor ++ 46 ∷ decimal patch)
-        ∙ written-more minor g _ _ _ (decimal patch)
+        ∙ written-more _ _ _ minor g (decimal patch)
         ∙ rw (version-part-decimal patch k)

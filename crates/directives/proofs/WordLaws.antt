@@ -4,7 +4,7 @@ use native.Mathlib.Omega.{arith}
 use mathlib.Core.Path.{_≡_, refl, sym, ap, _∙_}
 use mathlib.Core.Logic.{_≢_}
 use mathlib.Core.Bool.{Bool, true, false}
-use mathlib.Core.List.{List, [], _∷_, _++_}
+use mathlib.Core.List.{List, [], _∷_, _++_, append-nil}
 use lib.Dec.{leb}
 use lib.ListN.{length, drop, length-append}
 use lib.Seq.{drop-at, drop-drop, drop-append-seam, take-at}
@@ -12,7 +12,7 @@ use borrow.Author.Tests.{leb-true, eq-eqb, ne-eqb}
 use Rattle.lists.specs.Bytes.{Every}
 use Rattle.lists.proofs.BoolLaws.{and-left, and-right}
 use Rattle.scan.specs.declared.place.Place.{Place}
-use Rattle.scan.specs.Find.{index, seek}
+use Rattle.scan.specs.Find.{index}
 use Rattle.scan.specs.Part.{textAt}
 use Rattle.scan.specs.Word.{isSpace, isInk, space, ink, word}
 use Rattle.scan.proofs.FindLaws.{index-append, seek-at}
@@ -43,6 +43,10 @@ pub record Next (s : List ℕ) (at : ℕ) (w : List ℕ) (place : Place) : Type 
   pub some : place .start ≢ length s
   pub reads : textAt place s ≡ w
 
+pub next-then : {A : Type 0} (refused : A) (f : Place → A) {s : List ℕ} {at : ℕ} {w : List ℕ} {place : Place} {r : A}
+    → Next s at w place → r ≡ f place → r ≡ wordThen refused s at f
+next-then refused f {s} {at} n e = word-some refused s at f (n .is) (n .some) e
+
 -- a word begins where it is looked for
 ink-first : (w rest : List ℕ) → Every (λ x. isSpace x ≡ false) w → 0 < length w → index isInk (w ++ rest) ≡ 0
 unfolding index
@@ -58,24 +62,28 @@ module _ (a gap w rest : List ℕ) (white : Every (λ x. isInk x ≡ false) gap)
       let l : length s ≡ length a + (length gap + (length w + length rest)) = simp length-append in
       let d : drop at s ≡ gap ++ (w ++ rest) = drop-at a (gap ++ (w ++ rest)) at (sym e) in
       let k : drop (place .start) s ≡ w ++ rest = rw (b, ← drop-drop (length gap) at s, d) (drop-append-seam gap (w ++ rest)) in
-      let i : place .start ≡ ink at s
-      = omega (arith, seek-at isInk at s (omega arith), ap (index isInk) d, index-append isInk gap (w ++ rest) white, ink-first w rest inked some) in
-      let j : place .end ≡ space (place .start) s
-      = omega (arith, seek-at isSpace (place .start) s (omega arith), ap (index isSpace) k, index-append isSpace w rest inked) in
+      let i : place .start ≡ ink at s = omega (arith, seek-at isInk at s (omega arith), ap (index isInk) d, index-append isInk gap (w ++ rest) white, ink-first w rest inked some) in
+      let j : place .end ≡ space (place .start) s = omega (arith, seek-at isSpace (place .start) s (omega arith), ap (index isSpace) k, index-append isSpace w rest inked) in
       record {
         is = rw (← i, ← j);
         some = λ g. omega arith;
         reads = rw k (take-at w rest (place .end - place .start) (omega arith));
       }
 
--- the first word of a text, and the next one behind one space
-module _ (w rest : List ℕ) (inked : Every (λ x. isSpace x ≡ false) w) (some : 0 < length w) (ends : index isSpace rest ≡ 0) where
-  pub word-first : Next (w ++ rest) 0 w (record { start = 0; end = length w })
-  word-first = word-next [] [] w rest tt inked some ends 0 _ refl (omega arith) (omega arith)
+-- the first word of a text; the next one behind one space; and the last one
+module _ (w : List ℕ) (inked : Every (λ x. isSpace x ≡ false) w) (some : 0 < length w) where
+  pub word-first : (rest : List ℕ) → index isSpace rest ≡ 0 → Next (w ++ rest) 0 w (record { start = 0; end = length w })
+  word-first rest ends = word-next [] [] w rest tt inked some ends 0 _ refl (omega arith) (omega arith)
 
-  pub word-behind : (a text : List ℕ) (at : ℕ) → text ≡ a ++ 32 ∷ (w ++ rest) → at ≡ length a → Next text at w (record { start = at + 1; end = at + 1 + length w })
-  unfolding isSpace
-  word-behind a text at e l = rw e (word-next a (32 ∷ []) w rest (refl, tt) inked some ends at _ l refl refl)
+  module _ (a : List ℕ) (at : ℕ) (l : at ≡ length a) where
+    pub word-behind : (rest : List ℕ) → index isSpace rest ≡ 0
+        → Next (a ++ 32 ∷ (w ++ rest)) at w (record { start = at + 1; end = at + 1 + length w })
+    unfolding isSpace
+    word-behind rest ends = word-next a (32 ∷ []) w rest (refl, tt) inked some ends at _ l refl refl
+
+    pub word-last : Next (a ++ 32 ∷ w) at w (record { start = at + 1; end = at + 1 + length w })
+    unfolding index
+    word-last = rw append-nil at (word-behind [] refl)
 
 -- ── digits are no white space ─────────────────────────────────────────────────────────────────
 

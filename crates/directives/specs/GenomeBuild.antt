@@ -2,7 +2,6 @@
 -- to right: 6, the text is empty; 15, source missing; 16, name missing. Assumes nothing: these are definitions.
 use Prim.Native.Nat.{ℕ}
 use mathlib.Core.List.{List, [], _∷_}
-use Rattle.directives.specs.declared.genome_build.GenomeBuild.{GenomeBuild}
 use Rattle.directives.specs.declared.genome_build.BuildRead.{BuildRead}
 use Rattle.directives.specs.declared.genome_build.BuildRead.the-variants.{Is, Refused}
 use Rattle.directives.specs.Then.{wordThen}

@@ -10,7 +10,6 @@ use Rattle.scan.specs.Find.{index, is}
 use Rattle.numbers.specs.Number.{versionPart}
 use Rattle.directives.specs.declared.gff_version.Part.{Part}
 use Rattle.directives.specs.declared.gff_version.Part.the-variants as part
-use Rattle.directives.specs.declared.gff_version.GffVersion.{GffVersion}
 use Rattle.directives.specs.declared.gff_version.VersionRead.{VersionRead}
 use Rattle.directives.specs.declared.gff_version.VersionRead.the-variants.{Is, Refused}
 use Rattle.directives.specs.Then.{numberThen}

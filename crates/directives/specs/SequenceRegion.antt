@@ -7,7 +7,6 @@ use mathlib.Core.List.{List, [], _∷_}
 use Rattle.scan.specs.declared.place.Place.{Place}
 use Rattle.scan.specs.Part.{textAt}
 use Rattle.numbers.specs.Number.{regionPosition}
-use Rattle.directives.specs.declared.sequence_region.SequenceRegion.{SequenceRegion}
 use Rattle.directives.specs.declared.sequence_region.RegionRead.{RegionRead}
 use Rattle.directives.specs.declared.sequence_region.RegionRead.the-variants.{Is, Refused}
 use Rattle.directives.specs.Then.{wordThen, numberThen}

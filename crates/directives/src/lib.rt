@@ -2,7 +2,7 @@
 // by value; names are places in the text, and are not percent-decoded.
 //
 // Proved: each answer is the definition of specs/, and each refusal is given exactly when its reason holds and none further left does.
-// Assumes nothing.
+// What is written with one `.` or one space between the parts reads back. Assumes nothing.
 mod genome_build;
 mod gff_version;
 mod sequence_region;

@@ -21,4 +21,11 @@ returns-2 c =
 pub patch-spec : {M : Type 1} → statement M
 patch-spec =
     tie.close
-    (tie.spec (λ c κs. tt) (λ c κs. tt) (λ c. search needs) (λ c. omega (arith, part-fits _ (c .before .before .before .version-part .ensures) (c .before .n .given .1))) (λ c. search needs) returns returns-2)
+    (tie.spec
+    (λ c κs. tt)
+    (λ c κs. tt)
+    (λ c. search needs)
+    (λ c. omega (arith, part-fits _ (c .before .before .before .version-part .ensures) (c .before .n .given .1)))
+    (λ c. search needs)
+    returns
+    returns-2)
