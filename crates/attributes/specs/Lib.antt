@@ -1,4 +1,0 @@
-pub mod Attributes
-pub mod Lookup
-pub mod Pieces
-pub mod Step

@@ -1,4 +1,0 @@
-pub mod GenomeBuild
-pub mod GffVersion
-pub mod SequenceRegion
-pub mod Then
