@@ -69,6 +69,13 @@ strandText [] = strandRead.Refused 3
 strandText (x ∷ []) = strandByte x
 strandText (x ∷ y ∷ s) = strandRead.Refused 3
 
+-- the byte that is written for a strand
+unfoldable pub strandByteOf : Strand → ℕ
+strandByteOf strand.None = 46
+strandByteOf strand.Forward = 43
+strandByteOf strand.Reverse = 45
+strandByteOf strand.Unknown = 63
+
 -- `.` `0` `1` `2`, else 4
 abbrev pub phaseByte : ℕ → PhaseRead
 phaseByte x =
@@ -79,6 +86,13 @@ unfoldable pub phaseText : List ℕ → PhaseRead
 phaseText [] = phaseRead.Refused 4
 phaseText (x ∷ []) = phaseByte x
 phaseText (x ∷ y ∷ s) = phaseRead.Refused 4
+
+-- the byte that is written for a phase
+unfoldable pub phaseByteOf : Phase → ℕ
+phaseByteOf phase.Zero = 48
+phaseByteOf phase.One = 49
+phaseByteOf phase.Two = 50
+phaseByteOf phase.None = 46
 
 -- the exact byte `.`
 unfoldable pub isDot : List ℕ → Bool

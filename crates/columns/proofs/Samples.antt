@@ -1,0 +1,1 @@
+-- Samples. Assumes nothing.
