@@ -8,7 +8,7 @@ use mathlib.Core.Path.{_≡_, refl, sym, ap, ap₂, _∙_}
 use mathlib.Core.Bool.{Bool, true, false, cond, _&&_, true≢false}
 use mathlib.Core.List.{List, [], _∷_, _++_}
 use lib.Dec.{eqb}
-use lib.ListN.{length, take, drop, getD, length-append, length-drop, List·getD-eq-default}
+use lib.ListN.{length, drop, getD, length-append, length-drop, List·getD-eq-default}
 use lib.Seq.{take-all, take-append-seam, drop-append-add}
 use borrow.Author.Tests.{ne-eqb, eqb-true, leb-true, le-leb}
 use Rattle.lists.specs.Bytes.{Every, Lacks}

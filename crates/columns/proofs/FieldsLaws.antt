@@ -3,17 +3,22 @@
 use Prim.Native.Nat.{ℕ}
 use native.Mathlib.Omega.{arith}
 use mathlib.Core.Path.{_≡_, refl, sym, ap, _∙_}
-use mathlib.Core.Bool.{Bool, false}
+use mathlib.Core.Bool.{true, false, true≢false}
 use mathlib.Core.List.{List, [], _∷_}
 use lib.Dec.{eqb}
 use lib.ListN.{length, getD}
+use borrow.Author.Tests.{ne-eqb}
+use Rattle.scan.specs.declared.place.Place.{Place}
+use Rattle.columns.specs.declared.score.ScoreRead.the-variants as scoreRead
 use Rattle.columns.specs.declared.strand.Strand.{Strand}
 use Rattle.columns.specs.declared.strand.Strand.the-variants as strand
 use Rattle.columns.specs.declared.strand.StrandRead.the-variants as strandRead
 use Rattle.columns.specs.declared.phase.Phase.{Phase}
 use Rattle.columns.specs.declared.phase.Phase.the-variants as phase
 use Rattle.columns.specs.declared.phase.PhaseRead.the-variants as phaseRead
-use Rattle.columns.specs.Fields.{strandNumber, phaseNumber, strandByte, strandText, strandByteOf, phaseByte, phaseText, phaseByteOf, isDot}
+use Rattle.columns.specs.Fields.{strandNumber, phaseNumber, strandByte, strandText, strandByteOf, phaseByte, phaseText, phaseByteOf, isDot, scoreText}
+use Rattle.columns.specs.Score.{isScore}
+use Rattle.columns.proofs.ScoreLaws.{score-no-dot}
 
 -- ── read ──────────────────────────────────────────────────────────────────────────────────────
 
@@ -64,6 +69,16 @@ phase-back phase.One = refl
 phase-back phase.Two = refl
 phase-back phase.None = refl
 
+-- a token is read as one, since it is not `.`
+pub score-back : (s : List ℕ) (place : Place) → isScore s ≡ true → scoreText s place ≡ scoreRead.Token place
+unfolding isDot scoreText
+score-back s place e = rw (no-dot s e, e)
+  where
+    no-dot : (l : List ℕ) → isScore l ≡ true → isDot l ≡ false
+    no-dot [] h = refl
+    no-dot (x ∷ []) h = ne-eqb x 46 (λ same. true≢false (sym (rw same at h) ∙ score-no-dot))
+    no-dot (x ∷ y ∷ l) h = refl
+
 -- ── numbered ──────────────────────────────────────────────────────────────────────────────────
 
 -- where a list has each value at its number, no two have one number
@@ -74,7 +89,7 @@ pub strand-number-one : (a b : Strand) → strandNumber a ≡ strandNumber b →
 unfolding strandNumber
 strand-number-one =
     numbered strandNumber (strand.None ∷ strand.Forward ∷ strand.Reverse ∷ strand.Unknown ∷ []) strand.None
-    (λ t. elim t [ | strand.None ↦ refl | strand.Forward ↦ refl | strand.Reverse ↦ refl | strand.Unknown ↦ refl ])
+    (λ t. elim t [ strand.None ↦ refl | strand.Forward ↦ refl | strand.Reverse ↦ refl | strand.Unknown ↦ refl ])
 
 pub phase-number-one : (a b : Phase) → phaseNumber a ≡ phaseNumber b → a ≡ b
 unfolding phaseNumber

@@ -2,10 +2,9 @@
 -- are not the line's own, then gives the field's own number (2, 17, 3 or 4), then 22 where it decodes into a buffer.
 -- Assumes nothing: these are definitions.
 use Prim.Native.Nat.{ℕ}
-use mathlib.Core.Bool.{Bool, true, false, cond, not}
+use mathlib.Core.Bool.{Bool, false, cond, not}
 use mathlib.Core.List.{List, [], _∷_}
 use lib.Dec.{eqb}
-use lib.ListN.{length}
 use Rattle.scan.specs.declared.place.Place.{Place}
 use Rattle.numbers.specs.declared.read.Number.{Number}
 use Rattle.numbers.specs.declared.read.Number.the-variants.{Value, Invalid}

@@ -1,7 +1,7 @@
 -- A score token, document 01, "The field sheet": optional `-`, digits, optional `.` and digits, optional `e` or `E` with optional sign
 -- and digits; each run of digits has at least one. Assumes nothing: these are definitions.
 use Prim.Native.Nat.{ℕ}
-use mathlib.Core.Bool.{Bool, true, false, cond, not, _&&_, _||_}
+use mathlib.Core.Bool.{Bool, true, cond, not, _&&_, _||_}
 use mathlib.Core.List.{List, [], _∷_}
 use lib.Dec.{eqb, ltb}
 use lib.ListN.{drop}

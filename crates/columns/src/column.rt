@@ -3,7 +3,6 @@ use super::bounds::Bounds;
 use scan::Place;
 ghost use mathlib.Core.Path.{_≡_};
 ghost use Prim.Native.Nat.{_-_};
-ghost use lib.ListN.{length};
 ghost use Rattle.columns.specs.Columns.{ends, columnPlace, columnText};
 ghost use Rattle.columns.specs.Fields.{columnAt};
 

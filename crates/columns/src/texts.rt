@@ -2,7 +2,6 @@
 use super::bounds::Bounds;
 use super::column::Column;
 use buffer::Written;
-ghost use mathlib.Core.Path.{_≡_};
 ghost use Rattle.buffer.specs.Answer.{Wrote};
 ghost use Rattle.percent.specs.Percent.{decoded};
 ghost use Rattle.columns.specs.declared.column.Column.the-variants.{ReferenceSequenceName, Source, Ty};

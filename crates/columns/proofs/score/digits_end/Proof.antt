@@ -7,9 +7,9 @@ use borrow.Author.Needs.{needs}
 use borrow.Author.Tests.{ltb-true, ltb-false}
 use lib.ListN.{length}
 use Rattle.scan.specs.Find.{seek}
-use Rattle.scan.proofs.FindLaws.{seek-here, seek-next, seek-end}
+use Rattle.scan.proofs.FindLaws.{seek-end}
 use Rattle.columns.specs.Score.{noDigit}
-use Rattle.columns.proofs.ScoreLaws.{is-digit, no-digit}
+use Rattle.columns.proofs.ScoreLaws.{run-ends, run-goes-on}
 use Rattle.columns.proofs.score.digits_end.Statement.{statement}
 use Rattle.columns.proofs.score.digits_end.Tie as tie
 
@@ -22,12 +22,12 @@ abbrev μ-loop : tie.MeasureT-loop
 returns : tie.Need-returns Inv-loop μ-loop
 returns c =
     let d = c .before .before in
-    (sym (d .before .loop .inv ∙ seek-here noDigit _ _ (d .loop-test .taken) (no-digit _ (⊎-elim (λ w. inl (omega arith)) (λ w. inr (omega (arith, ltb-true))) (c .if1 .came)))), omega arith)
+    (sym (d .before .loop .inv ∙ run-ends _ _ (d .loop-test .taken) (⊎-elim (λ w. inl (omega arith)) (λ w. inr (omega (arith, ltb-true))) (c .if1 .came))), omega arith)
 
 loop-again : tie.Need-loop-again Inv-loop μ-loop
 loop-again c =
     let d = c .before .before .before in
-    d .before .loop .inv ∙ seek-next noDigit _ _ (d .loop-test .taken) (is-digit _ (omega arith) (omega (arith, ltb-false)))
+    d .before .loop .inv ∙ run-goes-on _ _ (d .loop-test .taken) (omega arith) (omega (arith, ltb-false))
 
 returns-2 : tie.Need-returns-2 Inv-loop μ-loop
 returns-2 c = (sym (c .before .loop .inv ∙ seek-end noDigit _ _ (c .loop-test .left)), omega arith)

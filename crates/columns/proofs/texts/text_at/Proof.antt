@@ -1,36 +1,31 @@
+-- `text_at`: the line's own bounds first, then the column decoded. Assumes nothing.
+use native.Mathlib.Omega.{arith}
+use mathlib.Core.Path.{_≡_, sym, _∙_}
+use mathlib.Core.Bool.{true}
 use borrow.Author.Needs.{needs}
+use Rattle.buffer.proofs.AnswerLaws.{wrote-refused}
+use Rattle.columns.specs.Columns.{isOwn}
+use Rattle.columns.proofs.ColumnsLaws.{own-ends}
 use Rattle.columns.proofs.texts.text_at.Statement.{statement}
 use Rattle.columns.proofs.texts.text_at.Tie as tie
-use Rattle.columns.proofs.texts.text_at.Reads as reads
-use Rattle.columns.proofs.texts.text_at.Lts as lts
-use Rattle.columns.proofs.bounds.own.Reads as own-reads
-use Rattle.columns.proofs.column.text.Reads as text-reads
-use Rattle.percent.proofs.decode.Reads as decode-reads
 
--- src/texts.rt:15:8
-own-requires : tie.Need-own-requires
-own-requires c κs = search needs
+owned : (c : tie.Then1) → let a = c .before .before .before .before .args in isOwn (a .line .now) (a .bounds) ≡ true
+owned c = sym (c .before .own .ensures) ∙ c .if1 .taken
 
--- src/texts.rt:16:25
-text-requires : tie.Need-text-requires
-text-requires c κs = ?
-
--- src/texts.rt:16:9
-decode-requires : tie.Need-decode-requires
-decode-requires c κs = search needs
-
--- src/texts.rt:12:1
-same-length : tie.Need-same-length
-same-length c = search needs
-
--- src/texts.rt:12:1
 returns : tie.Need-returns
-returns c = ?
-
--- src/texts.rt:12:1
-returns-2 : tie.Need-returns-2
-returns-2 c = ?
+returns c =
+    let d = c .before .before in
+    let text = d .before .before in
+    let wrote = rw (text .text .ensures) at (d .decode .ensures) in
+    record { result = rw (owned (text .before)) (wrote .result); left = wrote .left }
 
 pub text-at-spec : {M : Type 1} → statement M
 text-at-spec =
-    tie.close (tie.spec own-requires text-requires decode-requires same-length returns returns-2)
+    tie.close
+    (tie.spec
+    (λ c κs. tt)
+    (λ c κs. own-ends _ _ (owned c))
+    (λ c κs. search needs)
+    (λ c. search needs)
+    returns
+    (λ c. wrote-refused (rw (← c .before .own .ensures, c .if1 .left)) (omega arith)))
