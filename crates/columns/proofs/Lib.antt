@@ -1,0 +1,4 @@
+pub mod ColumnsLaws
+pub mod FieldsLaws
+pub mod ScoreLaws
+mod Samples

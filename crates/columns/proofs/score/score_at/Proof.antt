@@ -1,0 +1,50 @@
+-- `score_at`: the line's own bounds first, then `.`, then the token. Assumes nothing.
+use mathlib.Core.Path.{_≡_, sym, _∙_}
+use mathlib.Core.Bool.{true}
+use borrow.Author.Tests.{not-true, not-false}
+use Rattle.columns.specs.Columns.{isOwn}
+use Rattle.columns.specs.Fields.{scoreText, scoreAt}
+use Rattle.columns.proofs.ColumnsLaws.{own-ends}
+use Rattle.columns.proofs.score.score_at.Statement.{statement}
+use Rattle.columns.proofs.score.score_at.Tie as tie
+
+owned : (c : tie.Else1) → let a = c .before .before .before .args in isOwn (a .line .now) (a .bounds) ≡ true
+owned c = sym (c .before .own .ensures) ∙ not-false _ (c .if1 .left)
+
+returns : tie.Need-returns
+unfolding scoreAt
+returns c = rw (← c .before .own .ensures, not-true (c .before .own .result) (c .if1 .taken))
+
+returns-2 : tie.Need-returns-2
+unfolding scoreAt scoreText
+returns-2 c =
+    let d = c .before .before in
+    rw (owned (d .before), ← d .text .ensures, ← c .before .is-dot .ensures, c .if2 .taken)
+
+returns-3 : tie.Need-returns-3
+unfolding scoreAt scoreText
+returns-3 c =
+    let d = c .before .before .before in
+    let e = d .before .before in
+    rw (c .place .ensures, owned (e .before), ← e .text .ensures, ← d .before .is-dot .ensures, d .if2 .left, ← c .before .before .is-score .ensures, c .before .if3 .taken)
+
+returns-4 : tie.Need-returns-4
+unfolding scoreAt scoreText
+returns-4 c =
+    let d = c .before .before in
+    let e = d .before .before in
+    rw (owned (e .before), ← e .text .ensures, ← d .before .is-dot .ensures, d .if2 .left, ← c .before .is-score .ensures, c .if3 .left)
+
+pub score-at-spec : {M : Type 1} → statement M
+score-at-spec =
+    tie.close
+    (tie.spec
+    (λ c κs. tt)
+    returns
+    (λ c κs. own-ends _ _ (owned c))
+    (λ c κs. tt)
+    returns-2
+    (λ c κs. tt)
+    (λ c κs. own-ends _ _ (owned (c .before .before .before .before .before)))
+    returns-3
+    returns-4)

@@ -1,0 +1,31 @@
+-- `text_at`: the line's own bounds first, then the column decoded. Assumes nothing.
+use native.Mathlib.Omega.{arith}
+use mathlib.Core.Path.{_≡_, sym, _∙_}
+use mathlib.Core.Bool.{true}
+use borrow.Author.Needs.{needs}
+use Rattle.buffer.proofs.AnswerLaws.{wrote-refused}
+use Rattle.columns.specs.Columns.{isOwn}
+use Rattle.columns.proofs.ColumnsLaws.{own-ends}
+use Rattle.columns.proofs.texts.text_at.Statement.{statement}
+use Rattle.columns.proofs.texts.text_at.Tie as tie
+
+owned : (c : tie.Then1) → let a = c .before .before .before .before .args in isOwn (a .line .now) (a .bounds) ≡ true
+owned c = sym (c .before .own .ensures) ∙ c .if1 .taken
+
+returns : tie.Need-returns
+returns c =
+    let d = c .before .before in
+    let text = d .before .before in
+    let wrote = rw (text .text .ensures) at (d .decode .ensures) in
+    record { result = rw (owned (text .before)) (wrote .result); left = wrote .left }
+
+pub text-at-spec : {M : Type 1} → statement M
+text-at-spec =
+    tie.close
+    (tie.spec
+    (λ c κs. tt)
+    (λ c κs. own-ends _ _ (owned c))
+    (λ c κs. search needs)
+    (λ c. search needs)
+    returns
+    (λ c. wrote-refused (rw (← c .before .own .ensures, c .if1 .left)) (omega arith)))
