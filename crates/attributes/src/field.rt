@@ -1,0 +1,68 @@
+// `field::next`: a step of the walk over column 9.
+use scan::Place;
+ghost use mathlib.Core.Path.{_≡_};
+ghost use Rattle.attributes.specs.Attributes.{isDot, isEmpty};
+ghost use Rattle.attributes.specs.Step.{stepOf};
+
+// An attribute as it stands in the column, and the cursor behind it.
+pub struct Field {
+    pub tag: Place,
+    pub value: Place,
+    pub next: usize,
+}
+
+// What stands at a cursor.
+pub enum Step {
+    Is(Field),
+    Done,
+    // Refusal 5: text is left without `=`. The cursor stays, and the next step answers the same.
+    Refused,
+}
+
+fn is_dot(column: &[u8]) -> bool
+    ensures { λ r. ⌜ r ≡ isDot (now (column .entry)) ⌝ }
+{
+    if column.len() == 1 {
+        return column[0] == b'.';
+    }
+    false
+}
+
+// `Attributes::is_empty`: the column is `.` or has no byte.
+pub fn is_empty(column: &[u8]) -> bool
+    ensures { λ r. ⌜ r ≡ isEmpty (now (column .entry)) ⌝ }
+{
+    if column.len() == 0 {
+        return true;
+    }
+    is_dot(column)
+}
+
+// The attribute at a cursor. `a=1;b;c=2` has the tags `a` and `b;c`; `a=1;` has one; `a=1;b` has one, and then 5. A cursor in the middle
+// of a field starts the tag there, and one beyond the column is done.
+pub fn next_field(column: &[u8], at: usize) -> Step
+    ensures { λ r. ⌜ r ≡ stepOf (now (column .entry)) at ⌝ }
+{
+    if is_dot(column) {
+        return Step::Done;
+    }
+    if column.len() <= at {
+        return Step::Done;
+    }
+    let equals = scan::find(column, at, b'=');
+    if equals == column.len() {
+        return Step::Refused;
+    }
+    let from = equals + 1;
+    let end = scan::find(column, from, b';');
+    let tag = Place {
+        start: at,
+        end: equals,
+    };
+    let value = Place { start: from, end };
+    Step::Is(Field {
+        tag,
+        value,
+        next: end + 1,
+    })
+}

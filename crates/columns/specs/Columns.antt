@@ -1,0 +1,84 @@
+-- The columns of a record: document 01, "Reading a line". Columns 1 to 8 end at the first eight tabs and may be empty; column 9 is the
+-- rest, further tabs included. Assumes nothing: these are definitions.
+use Prim.Native.Nat.{ℕ, zero, suc, _-_}
+use mathlib.Core.Bool.{Bool, true, false, cond, _&&_}
+use mathlib.Core.List.{List, [], _∷_}
+use lib.Dec.{eqb, leb}
+use lib.ListN.{length}
+use Rattle.scan.specs.declared.place.Place.{Place}
+use Rattle.scan.specs.Part.{textAt}
+use Rattle.columns.specs.declared.bounds.Bounds.{Bounds}
+use Rattle.columns.specs.declared.bounds.Indexed.{Indexed}
+use Rattle.columns.specs.declared.bounds.Indexed.the-variants.{At, Refused}
+use Rattle.columns.specs.declared.column.Column.{Column}
+use Rattle.columns.specs.declared.column.Column.the-variants as column
+
+-- one past tab number n of a line, or past the line where it has fewer
+unfoldable pub end : ℕ → List ℕ → ℕ
+end zero s = zero
+end (suc n) [] = 1
+end (suc n) (x ∷ s) = suc (cond (eqb x 9) (end n s) (end (suc n) s))
+
+-- where columns 1 to 8 end: eight places, one past each tab
+unfoldable pub ends : List ℕ → Bounds
+ends s =
+    record {
+      «reference_sequence_name_end» = end 1 s;
+      «source_end» = end 2 s;
+      «type_end» = end 3 s;
+      «start_end» = end 4 s;
+      «end_end» = end 5 s;
+      «score_end» = end 6 s;
+      «strand_end» = end 7 s;
+      «phase_end» = end 8 s;
+    }
+
+-- whether a line has eight tabs
+abbrev pub isRecord : List ℕ → Bool
+isRecord s = leb (end 8 s) (length s)
+
+-- the line's bounds; refused, by number 1, where it has fewer than eight tabs
+unfoldable pub indexed : List ℕ → Indexed
+indexed s = cond (isRecord s) (At (ends s)) Refused
+
+-- ── bounds that are offered ──
+
+-- the eight in a row
+abbrev pub listed : Bounds → List ℕ
+listed b =
+    b .«reference_sequence_name_end» ∷ b .«source_end» ∷ b .«type_end» ∷ b .«start_end» ∷ b .«end_end» ∷ b .«score_end» ∷ b .«strand_end» ∷ b .«phase_end» ∷ []
+
+-- what was tested before holds, and two lists are the same
+abbrev pub same-after : Bool → List ℕ → List ℕ → Bool
+same-after t [] [] = t
+same-after t [] (y ∷ ys) = false
+same-after t (x ∷ xs) [] = false
+same-after t (x ∷ xs) (y ∷ ys) = same-after (t && eqb x y) xs ys
+
+abbrev pub matches : Indexed → Bounds → Bool
+matches Refused b = false
+matches (At a) b = same-after true (listed a) (listed b)
+
+-- whether these bounds are the line's own
+unfoldable pub isOwn : List ℕ → Bounds → Bool
+isOwn s b = matches (indexed s) b
+
+-- ── a column ──
+
+-- where columns 1 to 8 stand: from behind the tab before it to its own tab; column 9 is the rest
+abbrev pub between-tabs : ℕ → List ℕ → Place
+between-tabs n s = record { start = end n s; end = end (suc n) s - 1 }
+
+unfoldable pub columnPlace : Column → List ℕ → Place
+columnPlace column.ReferenceSequenceName s = between-tabs 0 s
+columnPlace column.Source s = between-tabs 1 s
+columnPlace column.Ty s = between-tabs 2 s
+columnPlace column.Start s = between-tabs 3 s
+columnPlace column.End s = between-tabs 4 s
+columnPlace column.Score s = between-tabs 5 s
+columnPlace column.Strand s = between-tabs 6 s
+columnPlace column.Phase s = between-tabs 7 s
+columnPlace column.Attributes s = record { start = end 8 s; end = length s }
+
+abbrev pub columnText : Column → List ℕ → List ℕ
+columnText c s = textAt (columnPlace c s) s

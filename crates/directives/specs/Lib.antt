@@ -1,0 +1,4 @@
+pub mod GenomeBuild
+pub mod GffVersion
+pub mod SequenceRegion
+pub mod Then
