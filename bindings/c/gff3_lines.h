@@ -1,0 +1,214 @@
+/* GFF3 lines, read with proof.
+ *
+ * Every function takes any bytes and numbers, and ends. A pointer may be null where its length is 0. Places are offsets into the text
+ * that was handed in: from `start`, before `end`; a text is never copied or kept. A cursor beyond its text counts as at its end.
+ *
+ * `refused` is 0, or the number of the refusal (docs/REFUSALS in the README lists them); then every other field is 0. A refused call
+ * changes no byte of its output buffer. Refusal 22, the output is longer than the buffer, carries the length needed in `length`.
+ */
+#ifndef GFF3_LINES_H
+#define GFF3_LINES_H
+
+#include <stddef.h>
+#include <stdint.h>
+
+#ifdef __cplusplus
+extern "C" {
+#endif
+
+/* ---- lines ---- */
+
+/* The next line from `at` on, without its line feed and one carriage return just before it, and the cursor behind it. `done`: none is
+ * left. */
+typedef struct {
+    uint64_t done;
+    size_t start;
+    size_t end;
+    size_t next;
+} gff3_line;
+
+gff3_line gff3_next_line(const uint8_t *text, size_t text_len, size_t at);
+
+/* What a line is. */
+enum { GFF3_DIRECTIVE = 0, GFF3_COMMENT = 1, GFF3_RECORD = 2 };
+
+uint32_t gff3_kind(const uint8_t *line, size_t line_len);
+
+/* The text of a comment; `is` is 0 where the line is none. */
+typedef struct {
+    uint64_t is;
+    size_t start;
+    size_t end;
+} gff3_comment_text;
+
+gff3_comment_text gff3_comment(const uint8_t *line, size_t line_len);
+
+/* The key and the value of a directive; `is` is 0 where the line is none, and `has_value` where no white space follows the key. */
+typedef struct {
+    uint64_t is;
+    size_t key_start;
+    size_t key_end;
+    uint64_t has_value;
+    size_t value_start;
+    size_t value_end;
+} gff3_directive_text;
+
+gff3_directive_text gff3_directive(const uint8_t *line, size_t line_len);
+
+/* ---- columns of a record ---- */
+
+/* One past each of the first eight tabs. */
+typedef struct {
+    size_t reference_sequence_name_end;
+    size_t source_end;
+    size_t type_end;
+    size_t start_end;
+    size_t end_end;
+    size_t score_end;
+    size_t strand_end;
+    size_t phase_end;
+} gff3_bounds;
+
+/* Refusal 1: fewer than eight tabs. */
+typedef struct {
+    uint64_t refused;
+    gff3_bounds bounds;
+} gff3_indexed;
+
+gff3_indexed gff3_index(const uint8_t *line, size_t line_len);
+
+/* The readers below take a line and its bounds, and refuse 1 where they are not the line's own. */
+
+/* A raw column, 1 to 9, as a place; another number counts as 9. */
+typedef struct {
+    uint64_t refused;
+    size_t start;
+    size_t end;
+} gff3_place;
+
+gff3_place gff3_column(const uint8_t *line, size_t line_len, gff3_bounds bounds, uint32_t column);
+
+/* A number. Start and end: refusals 1, 2. Strand: 0 to 3 for . + - ?, refusals 1, 3. Phase: 0 to 2, and 3 for none, refusals 1, 4. */
+typedef struct {
+    uint64_t refused;
+    uint64_t value;
+} gff3_number;
+
+gff3_number gff3_start(const uint8_t *line, size_t line_len, gff3_bounds bounds);
+gff3_number gff3_end(const uint8_t *line, size_t line_len, gff3_bounds bounds);
+gff3_number gff3_strand(const uint8_t *line, size_t line_len, gff3_bounds bounds);
+gff3_number gff3_phase(const uint8_t *line, size_t line_len, gff3_bounds bounds);
+
+/* The score token as a place; `missing` is 1 where the column is a dot. Refusals 1, 17. */
+typedef struct {
+    uint64_t refused;
+    uint64_t missing;
+    size_t start;
+    size_t end;
+} gff3_score_text;
+
+gff3_score_text gff3_score(const uint8_t *line, size_t line_len, gff3_bounds bounds);
+
+/* What a writer into a lent buffer answers. */
+typedef struct {
+    uint64_t refused;
+    size_t length;
+} gff3_written;
+
+/* Columns 1 to 3, percent-decoded; another number counts as 3. Refusals 1, 22. */
+gff3_written gff3_text(const uint8_t *line, size_t line_len, gff3_bounds bounds, uint32_t column, uint8_t *out, size_t out_len);
+
+/* ---- column 9 ---- */
+
+/* The attribute at a cursor, as it stands, and the cursor behind it. Refusal 5: text is left without `=`. */
+typedef struct {
+    uint64_t refused;
+    uint64_t done;
+    size_t tag_start;
+    size_t tag_end;
+    size_t value_start;
+    size_t value_end;
+    size_t next;
+} gff3_field;
+
+gff3_field gff3_next_field(const uint8_t *column, size_t column_len, size_t at);
+
+/* The next of the values of an attribute, as it stands, and the cursor behind it: `next`, and `out`, whether that was the last. Begin
+ * with 0 and 0. */
+typedef struct {
+    uint64_t done;
+    size_t start;
+    size_t end;
+    size_t next;
+    uint64_t out;
+} gff3_value;
+
+gff3_value gff3_next_value(const uint8_t *value, size_t value_len, size_t at, uint64_t out);
+
+/* The raw value of the first attribute whose decoded tag is `tag`. `found` is 0 where it is absent. Refusal 5 comes before a match. */
+typedef struct {
+    uint64_t refused;
+    uint64_t found;
+    size_t start;
+    size_t end;
+} gff3_found;
+
+gff3_found gff3_find_tag(const uint8_t *column, size_t column_len, const uint8_t *tag, size_t tag_len);
+
+/* 1 where the column is a dot or has no byte. */
+uint32_t gff3_no_attributes(const uint8_t *column, size_t column_len);
+
+/* ---- typed values of directives ---- */
+
+/* `parts` says how many of major, minor and patch are there. Refusals 6 to 9. */
+typedef struct {
+    uint64_t refused;
+    uint64_t parts;
+    uint64_t major;
+    uint64_t minor;
+    uint64_t patch;
+} gff3_version_value;
+
+gff3_version_value gff3_version(const uint8_t *text, size_t text_len);
+
+/* Refusals 6, 10 to 14. */
+typedef struct {
+    uint64_t refused;
+    size_t name_start;
+    size_t name_end;
+    uint64_t start;
+    uint64_t end;
+} gff3_region_value;
+
+gff3_region_value gff3_region(const uint8_t *text, size_t text_len);
+
+/* Refusals 6, 15, 16. */
+typedef struct {
+    uint64_t refused;
+    size_t source_start;
+    size_t source_end;
+    size_t name_start;
+    size_t name_end;
+} gff3_build_value;
+
+gff3_build_value gff3_build(const uint8_t *text, size_t text_len);
+
+/* ---- percent coding, numbers ---- */
+
+/* Refusal 22. */
+gff3_written gff3_decode(const uint8_t *text, size_t text_len, uint8_t *out, size_t out_len);
+
+/* The set of bytes that are escaped; another number counts as GFF3_ATTRIBUTE. */
+enum { GFF3_NAME = 1, GFF3_COLUMN = 2, GFF3_ATTRIBUTE = 3 };
+
+/* Refusals 24, 22. */
+gff3_written gff3_encode(uint32_t set, const uint8_t *text, size_t text_len, uint8_t *out, size_t out_len);
+
+/* A position, as columns 4 and 5 have it: 1 to 18446744073709551615. Refusal 2. */
+gff3_number gff3_position(const uint8_t *text, size_t text_len);
+
+#ifdef __cplusplus
+}
+#endif
+
+#endif
