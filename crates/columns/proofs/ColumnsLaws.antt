@@ -10,7 +10,7 @@ use mathlib.Core.List.{List, [], _∷_, _++_}
 use lib.Dec.{eqb}
 use lib.ListN.{length, drop, getD, length-append, length-drop, List·getD-eq-default}
 use lib.Seq.{take-all, take-append-seam, drop-append-add}
-use borrow.Author.Tests.{ne-eqb, eqb-true, leb-true, le-leb}
+use borrow.Author.Tests.{eq-eqb, ne-eqb, eqb-true, leb-true, le-leb}
 use Rattle.lists.specs.Bytes.{Every, Lacks}
 use Rattle.lists.proofs.BoolLaws.{and-left, and-right}
 use Rattle.scan.specs.declared.place.Place.{Place}
@@ -100,6 +100,15 @@ own-ends s b e = go (isRecord s) e
     go : (t : Bool) → matches (cond t (At (ends s)) Refused) b ≡ true → b ≡ ends s
     go true p = ap of-list (sym (same-is (listed (ends s)) (listed b) true p .1))
     go false p = absurd (true≢false (sym p))
+
+-- a record's own ends pass it
+pub own-record : (s : List ℕ) → isRecord s ≡ true → isOwn s (ends s) ≡ true
+unfolding isOwn indexed
+own-record s e = rw e (same-self (listed (ends s)))
+  where
+    same-self : (xs : List ℕ) → same-after true xs xs ≡ true
+    same-self [] = refl
+    same-self (x ∷ xs) = rw (eq-eqb x x refl) (same-self xs)
 
 -- ── a column's place ──────────────────────────────────────────────────────────────────────────
 

@@ -1,5 +1,5 @@
--- Laws of the one-byte fields: a text of one byte is judged by it, any other is refused; what is written for a strand or a phase is
--- read as it; and no two of them have one number. Assumes nothing.
+-- Laws of the fields: a text of one byte is judged by it, any other is refused; what is written for a strand, a phase or a score is
+-- read as it; no two strands and no two phases have one number. Assumes nothing.
 use Prim.Native.Nat.{ℕ}
 use native.Mathlib.Omega.{arith}
 use mathlib.Core.Path.{_≡_, refl, sym, ap, _∙_}
@@ -95,9 +95,4 @@ pub phase-number-one : (a b : Phase) → phaseNumber a ≡ phaseNumber b → a �
 unfolding phaseNumber
 phase-number-one =
     numbered phaseNumber (phase.Zero ∷ phase.One ∷ phase.Two ∷ phase.None ∷ []) phase.None
-    (λ p. elim p [
-      | phase.Zero ↦ refl
-      | phase.One ↦ refl
-      | phase.Two ↦ refl
-      | phase.None ↦ refl
-    ])
+    (λ p. elim p [ phase.Zero ↦ refl | phase.One ↦ refl | phase.Two ↦ refl | phase.None ↦ refl ])

@@ -141,7 +141,8 @@ module _ (at : ℕ) (s : List ℕ) where
 abbrev pub isScoreByte : ℕ → Bool
 isScoreByte x = isDigit x || among (43 ∷ 45 ∷ 46 ∷ 101 ∷ 69 ∷ []) x
 
-abbrev Made : List ℕ → Type 0
+-- a text is made of them
+abbrev pub Made : List ℕ → Type 0
 Made s = Every (λ x. isScoreByte x ≡ true) s
 
 -- one of two bytes

@@ -1,8 +1,9 @@
 // `Bounds`: where columns 1 to 8 end.
 ghost use mathlib.Core.Path.{_≡_};
+ghost use mathlib.Core.Bool.{true};
 ghost use Prim.Native.Nat.{_+_};
 ghost use Rattle.scan.specs.Find.{found};
-ghost use Rattle.columns.specs.Columns.{ends, indexed, isOwn};
+ghost use Rattle.columns.specs.Columns.{ends, indexed, listed, same-after, isOwn};
 
 // Eight places, each one past its column's tab; column 9 is the rest.
 pub struct Bounds {
@@ -65,21 +66,26 @@ pub fn index(line: &[u8]) -> Indexed
     }
 }
 
+// Whether none of the eight ends differs.
+fn same(a: Bounds, b: Bounds) -> bool
+    ensures { λ r. ⌜ r ≡ same-after true (listed a) (listed b) ⌝ }
+{
+    (a.reference_sequence_name_end == b.reference_sequence_name_end)
+        & (a.source_end == b.source_end)
+        & (a.type_end == b.type_end)
+        & (a.start_end == b.start_end)
+        & (a.end_end == b.end_end)
+        & (a.score_end == b.score_end)
+        & (a.strand_end == b.strand_end)
+        & (a.phase_end == b.phase_end)
+}
+
 // Whether these are the line's own bounds: it has eight tabs, and none of the eight ends differs.
 pub fn own(line: &[u8], bounds: Bounds) -> bool
     ensures { λ r. ⌜ r ≡ isOwn (now (line .entry)) bounds ⌝ }
 {
     match index(line) {
-        Indexed::At(b) => {
-            (b.reference_sequence_name_end == bounds.reference_sequence_name_end)
-                & (b.source_end == bounds.source_end)
-                & (b.type_end == bounds.type_end)
-                & (b.start_end == bounds.start_end)
-                & (b.end_end == bounds.end_end)
-                & (b.score_end == bounds.score_end)
-                & (b.strand_end == bounds.strand_end)
-                & (b.phase_end == bounds.phase_end)
-        }
+        Indexed::At(b) => same(b, bounds),
         Indexed::Refused => false,
     }
 }

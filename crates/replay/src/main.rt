@@ -3,7 +3,10 @@
 //
 // A case is a letter and its words: numbers in decimal, texts in hex, `-` for the empty text. A buffer that a call writes is filled with
 // 0xAA first and shown whole, so that the bytes that are not to be touched are seen.
+mod columns_cases;
+mod directive_cases;
 mod leaves;
+mod line_cases;
 mod show;
 mod words;
 
@@ -11,21 +14,37 @@ use lines::Cursor;
 use lines::Next;
 use words::Case;
 
+// A comment of the list is its own answer.
+fn comment(line: &[u8]) {
+    io::write_all(1, line);
+}
 
-// One case: the letter says which function is called.
-fn answer(line: &[u8], out: &mut [u8], at: usize) -> usize {
+// One case, with the texts that its first two words stand for: the letter says which function is called.
+fn answer<'a>(line: &'a [u8], text: &'a [u8], other: &'a [u8]) {
     let case = words::letter(line);
     match case {
-        Case::Comment => buffer::lay(line, out, at),
-        Case::Find => leaves::find(line, out, at),
-        Case::Word => leaves::word(line, out, at),
-        Case::Position => leaves::position(line, out, at),
-        Case::RegionPosition => leaves::region_position(line, out, at),
-        Case::VersionPart => leaves::version_part(line, out, at),
-        Case::Decimal => leaves::decimal(line, out, at),
-        Case::Decode => leaves::decode(line, out, at),
-        Case::Encode => leaves::encode(line, out, at),
-        Case::Unknown => show::word(b"?", out, at),
+        Case::Comment => comment(line),
+        Case::Find => leaves::find(line, text),
+        Case::Word => leaves::word(line, text),
+        Case::Position => leaves::position(text),
+        Case::RegionPosition => leaves::region_position(text),
+        Case::VersionPart => leaves::version_part(text),
+        Case::Decimal => leaves::decimal(line),
+        Case::Decode => leaves::decode(line, text),
+        Case::Encode => leaves::encode(line, text),
+        Case::Lines => line_cases::lines_of(text),
+        Case::Kind => line_cases::kind(text),
+        Case::CommentText => line_cases::comment(text),
+        Case::Directive => line_cases::directive(text),
+        Case::Bounds => columns_cases::bounds(text),
+        Case::Record => columns_cases::record(text, other),
+        Case::Walk => columns_cases::walk(text),
+        Case::Values => columns_cases::values(text),
+        Case::Lookup => columns_cases::lookup(text, other),
+        Case::Version => directive_cases::version(text),
+        Case::Region => directive_cases::region(text),
+        Case::Build => directive_cases::build(text),
+        Case::Unknown => show::word(b"?"),
     }
 }
 
@@ -34,10 +53,12 @@ fn turn(line: &[u8]) {
     if line.len() == 0 {
         return;
     }
-    let mut out = io::large_buffer();
-    let end = answer(line, &mut out, 0);
-    let all = buffer::lay_byte(b'\n', &mut out, end);
-    io::write_all(1, scan::part(&out, 0, all));
+    let mut text = [0u8; 512];
+    let n = words::unhex(line, 1, &mut text);
+    let mut other = [0u8; 512];
+    let m = words::unhex(line, 2, &mut other);
+    answer(line, scan::part(&text, 0, n), scan::part(&other, 0, m));
+    io::write_all(1, b"\n");
 }
 
 // The cases of a block, which holds whole lines.

@@ -1,47 +1,62 @@
-// Answers as text, each with a space behind it.
+// Answers as text on standard output, each word with a space behind it.
 use buffer::Written;
+use scan::Place;
 
-pub(crate) fn word(s: &[u8], out: &mut [u8], at: usize) -> usize {
-    let end = buffer::lay(s, out, at);
-    buffer::lay_byte(b' ', out, end)
+pub(crate) fn word(s: &[u8]) {
+    io::write_all(1, s);
+    io::write_all(1, b" ");
 }
 
-pub(crate) fn number(n: u64, out: &mut [u8], at: usize) -> usize {
-    let end = numbers::lay_decimal(n, out, at);
-    buffer::lay_byte(b' ', out, end)
+// Nothing is left.
+pub(crate) fn done() {
+    word(b".")
 }
 
-fn digit(n: u8) -> u8 {
-    let d = n % 16;
-    if d < 10 { 48 + d } else { 87 + d }
+pub(crate) fn number(n: u64) {
+    io::print_decimal(1, n);
+    io::write_all(1, b" ");
+}
+
+fn wide(b: u8) -> u64 {
+    b as u64
 }
 
 // A text in small hex digits; the empty one is `-`.
-pub(crate) fn hex(s: &[u8], out: &mut [u8], at: usize) -> usize {
+pub(crate) fn hex(s: &[u8]) {
     if s.len() == 0 {
-        return word(b"-", out, at);
+        io::write_all(1, b"-");
     }
-    let mut end = at;
     let mut i = 0;
     while i < s.len() {
-        end = buffer::lay_byte(digit(s[i] / 16), out, end);
-        end = buffer::lay_byte(digit(s[i]), out, end);
+        io::print_hex(1, wide(s[i]), 2);
         i += 1;
     }
-    buffer::lay_byte(b' ', out, end)
+    io::write_all(1, b" ");
 }
 
-fn told(mark: &[u8], n: u64, room: &[u8], out: &mut [u8], at: usize) -> usize {
-    let marked = word(mark, out, at);
-    let counted = number(n, out, marked);
-    hex(room, out, counted)
+// The text that stands at a place, in hex.
+pub(crate) fn text(s: &[u8], place: Place) {
+    hex(scan::text(s, place))
+}
+
+// A refusal: `!` and its number.
+pub(crate) fn refused(n: u32) {
+    word(b"!");
+    number(n as u64)
 }
 
 // What a writer answered, `=` and the length or `!`, the number and for 22 the length needed; and the whole buffer.
-pub(crate) fn written(answer: Written, room: &[u8], out: &mut [u8], at: usize) -> usize {
+pub(crate) fn written(answer: Written, room: &[u8]) {
     match answer {
-        Written::Done(n) => told(b"=", n as u64, room, out, at),
-        Written::Refused(n) => told(b"!", n as u64, room, out, at),
-        Written::NoRoom(n) => told(b"! 22", n as u64, room, out, at),
+        Written::Done(n) => {
+            word(b"=");
+            number(n as u64)
+        }
+        Written::Refused(n) => refused(n),
+        Written::NoRoom(n) => {
+            word(b"! 22");
+            number(n as u64)
+        }
     }
+    hex(room)
 }

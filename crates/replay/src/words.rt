@@ -1,6 +1,5 @@
 // The words of a case.
 use numbers::Number;
-
 ghost use Prim.Native.Nat.{_≤_};
 ghost use lib.ListN.{length};
 
@@ -14,6 +13,18 @@ pub(crate) enum Case {
     Decimal,
     Decode,
     Encode,
+    Lines,
+    Kind,
+    CommentText,
+    Directive,
+    Bounds,
+    Record,
+    Walk,
+    Values,
+    Lookup,
+    Version,
+    Region,
+    Build,
     Unknown,
 }
 
@@ -32,6 +43,18 @@ pub(crate) fn letter(line: &[u8]) -> Case {
         b'n' => Case::Decimal,
         b'd' => Case::Decode,
         b'e' => Case::Encode,
+        b'L' => Case::Lines,
+        b'K' => Case::Kind,
+        b'C' => Case::CommentText,
+        b'D' => Case::Directive,
+        b'B' => Case::Bounds,
+        b'R' => Case::Record,
+        b'W' => Case::Walk,
+        b'V' => Case::Values,
+        b'T' => Case::Lookup,
+        b'1' => Case::Version,
+        b'2' => Case::Region,
+        b'3' => Case::Build,
         _ => Case::Unknown,
     }
 }

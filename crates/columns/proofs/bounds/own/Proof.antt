@@ -6,13 +6,13 @@ use Rattle.columns.proofs.bounds.own.Tie as tie
 
 returns : tie.Need-returns
 unfolding isOwn
-returns c =
-    let b = c .before .before .before .before .before .before .before .before .before .before .before .before .before .before .before .before .before in
-    rw (← b .before .before .index .ensures, b .b .given .1)
+returns c = let d = c .before .before in rw (c .same .ensures, ← d .before .before .index .ensures, d .b .given .1)
 
 returns-2 : tie.Need-returns-2
 unfolding isOwn
 returns-2 c = rw (← c .before .before .index .ensures, c .enum-told .given .1)
 
 pub own-spec : {M : Type 1} → statement M
-own-spec = tie.close (tie.spec (λ c κs. tt) (λ c. search needs) (λ c. search needs) returns returns-2)
+own-spec =
+    tie.close
+    (tie.spec (λ c κs. tt) (λ c. search needs) (λ c κs. tt) (λ c. search needs) returns returns-2)
