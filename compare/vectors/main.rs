@@ -7,6 +7,7 @@
 
 mod leaves;
 mod list;
+mod reading;
 
 use std::{env, fs, process};
 
@@ -24,6 +25,10 @@ fn main() {
     leaves::numbers(&mut list);
     leaves::decoding(&mut list);
     leaves::encoding(&mut list);
+    reading::lines(&mut list);
+    reading::columns(&mut list);
+    reading::attributes(&mut list);
+    reading::directives(&mut list);
 
     println!("{} cases", list.len());
     fs::write(cases, list.cases()).expect("the cases are written");
