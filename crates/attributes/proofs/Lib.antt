@@ -4,3 +4,4 @@ pub mod ValueLaws
 pub mod WalkLaws
 pub mod WrittenLaws
 mod Samples
+mod Unique

@@ -3,3 +3,4 @@ pub mod RegionLaws
 pub mod VersionLaws
 pub mod WordLaws
 mod Samples
+mod Unique

@@ -2,3 +2,4 @@ pub mod KindLaws
 pub mod LinesLaws
 pub mod StepLaws
 mod Samples
+mod Unique

@@ -1,4 +1,5 @@
 pub mod BoolLaws
 pub mod EveryLaws
+pub mod One
 pub mod OrderLaws
 pub mod TableLaws

@@ -1,3 +1,4 @@
 pub mod DecimalLaws
 pub mod NumberLaws
 mod Samples
+mod Unique

@@ -3,3 +3,4 @@ pub mod CursorLaws
 pub mod PercentLaws
 pub mod SameLaws
 pub mod SetLaws
+mod Unique

@@ -1,3 +1,4 @@
 pub mod FindLaws
 pub mod MaskLaws
 pub mod PartLaws
+mod Unique
