@@ -87,6 +87,10 @@ pub(crate) fn encode(line: &[u8], out: &mut [u8], at: usize) -> usize {
     let n = words::unhex(line, 1, &mut text);
     let mut room = [170u8; ROOM];
     let size = words::number(line, 2) as usize;
-    let answer = percent::encode(set(words::number(line, 3)), scan::part(&text, 0, n), words::front(&mut room, size));
+    let answer = percent::encode(
+        set(words::number(line, 3)),
+        scan::part(&text, 0, n),
+        words::front(&mut room, size),
+    );
     show::written(answer, scan::part(&room, 0, size), out, at)
 }

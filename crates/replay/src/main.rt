@@ -10,7 +10,6 @@ mod words;
 use lines::Cursor;
 use lines::Next;
 use words::Case;
-
 ghost use Prim.Native.Nat.{_≤_};
 ghost use lib.ListN.{length};
 

@@ -1,6 +1,5 @@
 // The words of a case.
 use numbers::Number;
-
 ghost use Prim.Native.Nat.{_≤_};
 ghost use lib.ListN.{length};
 
