@@ -1,16 +1,18 @@
 // Whether a text is a sheet, in one pass: each part is passed by the cursor behind it, and a part that is not of the form by a place past
-// the sheet's end, where the passing stops. So a count costs no more steps than there are bytes.
+// the sheet's end, where the passing stops. Each turn of a loop moves the cursor on, and that is why it ends: a count, however large,
+// costs no more turns than there are bytes.
 use super::read::CountRead;
 use super::read::SectionRead;
 ghost use mathlib.Core.Path.{_≡_};
-ghost use Prim.Native.Nat.{_≤_};
+ghost use Prim.Native.Nat.{_<_, _≤_};
 ghost use lib.ListN.{length, drop};
 ghost use Rattle.sheet.specs.Reader.{times, counted};
 ghost use Rattle.sheet.specs.Sheet.{section, read-attribute, sheet-read, isSome};
 ghost use Rattle.sheet.specs.Past.{Past};
 
 fn past_section(sheet: &[u8], at: usize) -> usize
-    ensures { λ r. ⌜ Past (now (sheet .entry)) r (section (drop at (now (sheet .entry)))) ⌝ }
+    ensures past { λ r. ⌜ Past (now (sheet .entry)) r (section (drop at (now (sheet .entry)))) ⌝ }
+    ensures further { λ r. ⌜ (at ≤ length (now (sheet .entry)) → at < r) ⌝ }
 {
     match super::read::section_at(sheet, at) {
         SectionRead::At(place) => place.end,
@@ -20,7 +22,8 @@ fn past_section(sheet: &[u8], at: usize) -> usize
 
 fn past_values(sheet: &[u8], from: usize, count: usize) -> usize
     requires { ⌜ from ≤ length (now sheet) ⌝ }
-    ensures { λ r. ⌜ Past (now (sheet .entry)) r (times section count (drop from (now (sheet .entry)))) ⌝ }
+    ensures past { λ r. ⌜ Past (now (sheet .entry)) r (times section count (drop from (now (sheet .entry)))) ⌝ }
+    ensures further { λ r. ⌜ from ≤ r ⌝ }
 {
     let mut at = from;
     let mut left = count;
@@ -35,7 +38,8 @@ fn past_values(sheet: &[u8], from: usize, count: usize) -> usize
 }
 
 fn past_attribute(sheet: &[u8], at: usize) -> usize
-    ensures { λ r. ⌜ Past (now (sheet .entry)) r (read-attribute (drop at (now (sheet .entry)))) ⌝ }
+    ensures past { λ r. ⌜ Past (now (sheet .entry)) r (read-attribute (drop at (now (sheet .entry)))) ⌝ }
+    ensures further { λ r. ⌜ (at ≤ length (now (sheet .entry)) → at < r) ⌝ }
 {
     let tag = past_section(sheet, at);
     match super::read::count_at(sheet, tag) {

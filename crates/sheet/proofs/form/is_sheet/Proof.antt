@@ -22,7 +22,7 @@ returns c =
     let two = three .before in
     let one = two .before in
     past-ended _ _
-    (past-sheet (one .past-section .ensures) (two .past-section2 .ensures) (three .past-section3 .ensures) (four .past-section4 .ensures)
+    (past-sheet (one .past-section .ensures .0) (two .past-section2 .ensures .0) (three .past-section3 .ensures .0) (four .past-section4 .ensures .0)
     (past-counted _ _ (hands d) (c .past-attributes .ensures)))
 
 returns-2 : tie.Need-returns-2
@@ -34,7 +34,7 @@ returns-2 c =
     let one = two .before in
     let s = one .before .before .args .sheet .now in
     past-no-end s (length s + 1)
-    (past-sheet (one .past-section .ensures) (two .past-section2 .ensures) (three .past-section3 .ensures) (four .past-section4 .ensures)
+    (past-sheet (one .past-section .ensures .0) (two .past-section2 .ensures .0) (three .past-section3 .ensures .0) (four .past-section4 .ensures .0)
     (past-uncounted s (four .past-section4 .result) (count-meets _ _ (d .count-at .ensures) (c .enum-told .given .1)) (omega arith))) (omega arith)
 
 pub is-sheet-spec : {M : Type 1} → statement M

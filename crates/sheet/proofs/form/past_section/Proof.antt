@@ -11,10 +11,11 @@ returns : tie.Need-returns
 returns c =
     let d = c .before in
     let h = section-meets _ _ (d .before .before .section-at .ensures) (d .place .given .1) in
-    rw (h .read) (past (h .inside) refl)
+    (rw (h .read) (past (h .inside) refl), λ l. omega arith)
 
 returns-2 : tie.Need-returns-2
-returns-2 c = rw (section-meets _ _ (c .before .before .section-at .ensures) (c .enum-told .given .1)) (beyond (omega arith))
+returns-2 c =
+    (rw (section-meets _ _ (c .before .before .section-at .ensures) (c .enum-told .given .1)) (beyond (omega arith)), λ l. omega arith)
 
 pub past-section-spec : {M : Type 1} → statement M
 past-section-spec =
