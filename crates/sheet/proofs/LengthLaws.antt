@@ -3,12 +3,13 @@ use Prim.Native.Nat.{ℕ, _+_, _*_, _≤_}
 use native.Mathlib.Omega.{arith}
 use mathlib.Core.Path.{_≡_, refl}
 use mathlib.Core.Logic.{_≢_}
-use mathlib.Core.List.{List, [], _∷_, _++_, flatMap}
+use mathlib.Core.List.{List, [], _∷_, flatMap}
 use lib.ListN.{length, length-append}
 use Rattle.lists.specs.Bytes.{Every}
 use Rattle.lists.proofs.EveryLaws.{every-append}
 use Rattle.attributes.specs.Attributes.{Attribute}
 use Rattle.sheet.specs.Sheet.{Sheet, number-of, section-of, counted-of, attribute-of, sheet-of}
+use Rattle.sheet.proofs.SheetLaws.{GoodAttribute, GoodSheet}
 
 -- ── by its parts ──────────────────────────────────────────────────────────────────────────────
 
@@ -49,6 +50,22 @@ pub length-attributes : (l : List Attribute) → Every (λ a. a .values ≢ []) 
 unfolding flatMap
 length-attributes [] h = omega arith
 length-attributes (a ∷ l) h = simp length-append (omega (arith, twelve a (h .0), length-attributes l (h .1)))
+
+-- so a sheet has few attributes and few values for its bytes
+pub attributes-few : (s : Sheet) → GoodSheet s → 20 + length (s .attributes) * 12 ≤ length (sheet-of s)
+attributes-few s g = omega (arith, length-sheet s, length-attributes (s .attributes) (some-values (s .attributes) (g .good-attributes .1)))
+  where
+    some-values : (l : List Attribute) → Every GoodAttribute l → Every (λ a. a .values ≢ []) l
+    some-values [] h = tt
+    some-values (a ∷ l) h = (h .0 .good-values .1, some-values l (h .1))
+
+pub values-few : (s : Sheet) → 20 + length (flatMap (λ a. a .values) (s .attributes)) * 4 ≤ length (sheet-of s)
+unfolding flatMap
+values-few s = omega (arith, length-sheet s, go (s .attributes))
+  where
+    go : (l : List Attribute) → length (flatMap (λ a. a .values) l) * 4 ≤ length (flatMap attribute-of l)
+    go [] = omega arith
+    go (a ∷ l) = simp (length-append, length-attribute) (omega (arith, length-values (a .values), go l))
 
 -- ── each text is shorter by twenty bytes, those of the five counts that every sheet has ───────
 

@@ -1,7 +1,7 @@
 -- A count and a section at a cursor, as functions of the text and the cursor alone; a cursor beyond the text is malformed. Assumes
 -- nothing: these are definitions.
 use Prim.Native.Nat.{ℕ, _+_, _*_}
-use mathlib.Core.Bool.{Bool, true, false, cond}
+use mathlib.Core.Bool.{cond}
 use mathlib.Core.List.{List}
 use lib.Dec.{leb}
 use lib.ListN.{length, getD}

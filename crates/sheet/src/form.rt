@@ -6,7 +6,7 @@ use super::read::SectionRead;
 ghost use mathlib.Core.Path.{_≡_};
 ghost use Prim.Native.Nat.{_<_, _≤_};
 ghost use lib.ListN.{length, drop};
-ghost use Rattle.sheet.specs.Reader.{times, counted};
+ghost use Rattle.sheet.specs.Reader.{times};
 ghost use Rattle.sheet.specs.Sheet.{section, read-attribute, sheet-read, isSome};
 ghost use Rattle.sheet.specs.Past.{Past};
 

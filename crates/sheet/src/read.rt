@@ -1,7 +1,7 @@
 // Counts and sections at a cursor. A cursor beyond the sheet is malformed, as a cut-off count is.
 use scan::Place;
 ghost use mathlib.Core.Path.{_≡_};
-ghost use Prim.Native.Nat.{_+_, _<_, _≤_};
+ghost use Prim.Native.Nat.{_<_};
 ghost use lib.ListN.{length, getD};
 ghost use Rattle.sheet.specs.Cursor.{countAt, sectionAt};
 
