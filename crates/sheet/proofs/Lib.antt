@@ -1,0 +1,5 @@
+pub mod CursorLaws
+pub mod LengthLaws
+pub mod PastLaws
+pub mod SheetLaws
+mod Samples
