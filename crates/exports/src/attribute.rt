@@ -83,13 +83,7 @@ pub extern "C" fn gff3_next_field(column: &[u8], at: usize) -> Gff3Field
 pub extern "C" fn gff3_next_value(value: &[u8], at: usize, out: u64) -> Gff3Value
     ensures { λ r. ⌜ r ≡ valueOf (nextValueOf (now (value .entry)) (cursorOf at out)) ⌝ }
 {
-    match attributes::next_value(
-        value,
-        ValueCursor {
-            at,
-            out: out != 0,
-        },
-    ) {
+    match attributes::next_value(value, ValueCursor { at, out: out != 0 }) {
         NextValue::Is(place, cursor) => Gff3Value {
             done: 0,
             start: place.start,

@@ -227,7 +227,12 @@ pub extern "C" fn gff3_phase(line: &[u8], bounds: Gff3Bounds) -> Gff3Number
 
 // Columns 1 to 3, decoded into a lent buffer; another number counts as 3. Refusals 1, 22.
 #[no_mangle]
-pub extern "C" fn gff3_text(line: &[u8], bounds: Gff3Bounds, column: u32, out: &mut [u8]) -> Gff3Written
+pub extern "C" fn gff3_text(
+    line: &[u8],
+    bounds: Gff3Bounds,
+    column: u32,
+    out: &mut [u8],
+) -> Gff3Written
     ensures { λ r. ⌜ Writes (text-reasons (now (line .entry)) (boundsIn bounds)) (decoded (columnText (textColumnOf column) (now (line .entry)))) (now (out .entry)) (now (out .exit)) r ⌝ }
 {
     let b = bounds_in(bounds);

@@ -1,54 +1,18 @@
+-- `column_of` answers `columnOf`. Assumes nothing.
+use borrow.Author.Tests.{ne-eqb}
 use Rattle.exports.proofs.record.column_of.Statement.{statement}
 use Rattle.exports.proofs.record.column_of.Tie as tie
-use Rattle.exports.proofs.record.column_of.Reads as reads
-use Rattle.exports.proofs.record.column_of.Lts as lts
-
--- src/record.rt:106:1
-returns : tie.Need-returns
-returns c = ?
-
--- src/record.rt:106:1
-returns-2 : tie.Need-returns-2
-returns-2 c = ?
-
--- src/record.rt:106:1
-returns-3 : tie.Need-returns-3
-returns-3 c = ?
-
--- src/record.rt:106:1
-returns-4 : tie.Need-returns-4
-returns-4 c = ?
-
--- src/record.rt:106:1
-returns-5 : tie.Need-returns-5
-returns-5 c = ?
-
--- src/record.rt:106:1
-returns-6 : tie.Need-returns-6
-returns-6 c = ?
-
--- src/record.rt:106:1
-returns-7 : tie.Need-returns-7
-returns-7 c = ?
-
--- src/record.rt:106:1
-returns-8 : tie.Need-returns-8
-returns-8 c = ?
-
--- src/record.rt:106:1
-returns-9 : tie.Need-returns-9
-returns-9 c = ?
 
 pub column-of-spec : {M : Type 1} → statement M
 column-of-spec =
     tie.close
     (tie.spec
-    returns
-    returns-2
-    returns-3
-    returns-4
-    returns-5
-    returns-6
-    returns-7
-    returns-8
-    returns-9)
+    (λ c. rw (c .match .keys1))
+    (λ c. rw (c .match .keys2))
+    (λ c. rw (c .match .keys3))
+    (λ c. rw (c .match .keys4))
+    (λ c. rw (c .match .keys5))
+    (λ c. rw (c .match .keys6))
+    (λ c. rw (c .match .keys7))
+    (λ c. rw (c .match .keys8))
+    (λ c. let r = c .match .rest in rw (ne-eqb _ 1 (r .0 .0 .0 .0 .0 .0 .0 .1), ne-eqb _ 2 (r .0 .0 .0 .0 .0 .0 .1), ne-eqb _ 3 (r .0 .0 .0 .0 .0 .1), ne-eqb _ 4 (r .0 .0 .0 .0 .1), ne-eqb _ 5 (r .0 .0 .0 .1), ne-eqb _ 6 (r .0 .0 .1), ne-eqb _ 7 (r .0 .1), ne-eqb _ 8 (r .1))))
