@@ -1,0 +1,5 @@
+pub mod Attribute
+pub mod Coding
+pub mod Directive
+pub mod Line
+pub mod Record
