@@ -16,11 +16,8 @@ use crate::{
 const MARKS: &[u8] = b"==;;,,%.a6\t";
 
 pub fn every(report: &mut Report, len: usize) {
-    if len <= 6 {
+    if len <= 7 {
         texts::every(b"a=;,%.", len, |column| whole_column(report, column));
-    }
-
-    if len <= 6 {
         texts::every(b"a=;%61", len, |column| {
             for tag in [&b"a"[..], b"", b"%61", b"aa", b"a;", b"61"] {
                 lookup(report, column, tag);

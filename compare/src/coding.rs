@@ -19,8 +19,11 @@ const SETS: [usize; 6] = [1, 2, 3, 0, 4, u32::MAX as usize];
 const MARKS: &[u8] = b"%%%%0123456789abcdefABCDEFgG+;=&, \x7f\x80\xff";
 
 pub fn every(report: &mut Report, len: usize) {
-    if len <= 6 {
+    if len <= 7 {
         texts::every(b"%42fFg", len, |text| decoded(report, text));
+    }
+
+    if len <= 6 {
         texts::every(b"019+-a", len, |text| {
             report.check(Call::Position, Case::of(text), position)
         });
@@ -139,6 +142,8 @@ fn decode(desk: &mut Desk, case: Case<'_>) -> Verdict {
     desk.writes(case, Ok(&expected), ours::decode)
 }
 
+type Writer = fn(&[u8]) -> Vec<u8>;
+
 /// Two of the Rust's writers share a set each: columns 2 and 3, tags and values.
 fn encode(desk: &mut Desk, case: Case<'_>) -> Verdict {
     let encode = |set: u32| move |text: &[u8], out: &mut [u8]| ours::encode(set, text, out);
@@ -147,7 +152,7 @@ fn encode(desk: &mut Desk, case: Case<'_>) -> Verdict {
         return desk.writes(case, Err(24), encode(case.number as u32));
     }
 
-    let writers: &[fn(&[u8]) -> Vec<u8>] = match case.number {
+    let writers: &[Writer] = match case.number {
         1 => &[rust::encode_reference_sequence_name],
         2 => &[rust::encode_source, rust::encode_type],
         _ => &[rust::encode_tag, rust::encode_value],

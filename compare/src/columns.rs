@@ -28,11 +28,13 @@ pub fn every(report: &mut Report, len: usize) {
         texts::every(b"a\t", len, |line| whole_line(report, line));
     }
 
-    if len <= 6 {
+    if len <= 7 {
         texts::every(b"01.+-e", len, |token| {
-            let line = with(6, token);
-            report.check(Call::Score, Case::of(&line), read_score);
+            report.check(Call::Score, Case::of(&with(6, token)), read_score)
         });
+    }
+
+    if len <= 6 {
         texts::every(b"019+-a", len, |token| {
             report.check(Call::Start, Case::of(&with(4, token)), start);
             report.check(Call::End, Case::of(&with(5, token)), end);

@@ -14,7 +14,7 @@ use crate::{
 const MARKS: &[u8] = b"#a \t\n\x0b\x0c\r\x85\xa0";
 
 pub fn every(report: &mut Report, len: usize) {
-    if len <= 10 {
+    if len <= 11 {
         texts::every(b"a\r\n", len, |text| all_cursors(report, text));
     }
 
