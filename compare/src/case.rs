@@ -76,7 +76,9 @@ impl fmt::Display for Case<'_> {
             show(f, "tag", self.tag)?;
         }
 
-        writeln!(f, "  number   {}", self.number)?;
+        if self.number != 0 {
+            writeln!(f, "  number   {} (the cursor, the column or the set)", self.number)?;
+        }
 
         if self.out != 0 {
             writeln!(f, "  out      {}", self.out)?;

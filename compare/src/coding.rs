@@ -59,6 +59,8 @@ pub fn sweep(report: &mut Report) {
         }
     }
 
+    texts::beside_greatest(|number| report.check(Call::Position, Case::of(number.as_bytes()), position));
+
     for len in [LONGEST - 1, LONGEST, LONGEST + 1] {
         for byte in *b"a%" {
             let text = vec![byte; len];

@@ -9,6 +9,9 @@ use crate::{
 /// Longer than any text here, and than any output.
 const LONGEST: usize = 4 << 20;
 
+/// Texts shorter than this stand right before the output buffer now and then.
+const BESIDE: usize = 4096;
+
 pub struct Desk {
     texts: Texts,
     tags: Texts,
@@ -77,8 +80,11 @@ impl Desk {
             b""
         };
 
-        let text = self.texts.lend(case.text, self.side);
-        let out = self.room.lend(room, self.side);
+        let (text, out) = if self.turn % 8 == 5 && case.text.len() < BESIDE {
+            self.room.lend_behind(case.text, room)
+        } else {
+            (self.texts.lend(case.text, self.side), self.room.lend(room, self.side))
+        };
         same(write(text, out), answer)?;
 
         if self.room.has(laid) {

@@ -37,34 +37,28 @@ pub fn every(report: &mut Report, len: usize) {
     }
 }
 
-/// The greatest numbers and those beside them, with each count of zeros before them, in each place.
+/// The greatest numbers and those beside them, in each place.
 pub fn sweep(report: &mut Report) {
-    let greatest = [u128::from(u32::MAX), u128::from(u64::MAX), 10_u128.pow(20), 0];
+    texts::beside_greatest(|number| {
+        for sign in ["", "+", "-"] {
+            for text in [
+                format!("{sign}{number}"),
+                format!("3.{sign}{number}"),
+                format!("3.{sign}{number}.{number}"),
+                format!("3.1.{sign}{number}"),
+            ] {
+                report.check(Call::Version, Case::of(text.as_bytes()), version);
+            }
 
-    for n in greatest.iter().flat_map(|n| n.saturating_sub(11)..=n + 11) {
-        for zeros in 0..24 {
-            let number = format!("{}{n}", "0".repeat(zeros));
-
-            for sign in ["", "+", "-"] {
-                for text in [
-                    format!("{sign}{number}"),
-                    format!("3.{sign}{number}"),
-                    format!("3.{sign}{number}.{number}"),
-                    format!("3.1.{sign}{number}"),
-                ] {
-                    report.check(Call::Version, Case::of(text.as_bytes()), version);
-                }
-
-                for text in [
-                    format!("a {sign}{number} 8"),
-                    format!("a 8 {sign}{number}"),
-                    format!("a {number} {sign}{number}"),
-                ] {
-                    report.check(Call::Region, Case::of(text.as_bytes()), region);
-                }
+            for text in [
+                format!("a {sign}{number} 8"),
+                format!("a 8 {sign}{number}"),
+                format!("a {number} {sign}{number}"),
+            ] {
+                report.check(Call::Region, Case::of(text.as_bytes()), region);
             }
         }
-    }
+    });
 }
 
 pub fn random(report: &mut Report, dice: &mut Dice) {

@@ -4,6 +4,7 @@
 
 use std::{
     ffi::{c_char, c_int, c_void},
+    ops::Range,
     ptr, slice,
 };
 
@@ -79,48 +80,71 @@ impl Texts {
 pub struct Room {
     start: *mut u8,
     len: usize,
-    lent: (usize, usize),
+    lent: Range<usize>,
+    /// The text that stands right before the lent buffer.
+    beside: Vec<u8>,
 }
 
 impl Room {
-    /// Room for buffers of up to `len` bytes.
+    /// Room for a buffer and the text beside it of up to `len` bytes together.
     pub fn new(len: usize) -> Self {
         let len = (len + MARGIN).next_multiple_of(PAGE);
 
         Self {
             start: unsafe { fenced(len, PROT_READ | PROT_WRITE, MAP_PRIVATE | MAP_ANONYMOUS, -1) },
             len,
-            lent: (0, 0),
+            lent: 0..0,
+            beside: Vec::new(),
         }
     }
 
     /// A buffer of `n` bytes beside a fence, filled with the pattern, as are the bytes on its other side.
     pub fn lend(&mut self, n: usize, side: Side) -> &mut [u8] {
-        self.lent = (place(self.len, n, side), n);
-        let (from, to) = self.watched();
+        self.fill(b"", n, side);
+        unsafe { slice::from_raw_parts_mut(self.start.add(self.lent.start), n) }
+    }
+
+    /// The same with a text right before the buffer: code that copies by large steps looks how far apart the two are.
+    pub fn lend_behind(&mut self, text: &[u8], n: usize) -> (&[u8], &mut [u8]) {
+        self.fill(text, n, Side::Last);
+        let at = self.lent.start;
 
         unsafe {
-            for at in from..to {
-                *self.start.add(at) = pattern(at);
-            }
-
-            slice::from_raw_parts_mut(self.start.add(self.lent.0), n)
+            (
+                slice::from_raw_parts(self.start.add(at - text.len()), text.len()),
+                slice::from_raw_parts_mut(self.start.add(at), n),
+            )
         }
+    }
+
+    fn fill(&mut self, text: &[u8], n: usize, side: Side) {
+        let at = place(self.len, n, side);
+        self.lent = at..at + n;
+        self.beside.clear();
+        self.beside.extend(text);
+
+        for at in self.watched() {
+            unsafe { *self.start.add(at) = pattern(at) };
+        }
+
+        let text_at = at.checked_sub(text.len()).expect("the text fits");
+        unsafe { ptr::copy_nonoverlapping(text.as_ptr(), self.start.add(text_at), text.len()) };
     }
 
     /// What the lent buffer has now; nothing where a byte beside it was changed.
     pub fn left(&self) -> Option<&[u8]> {
-        let (at, n) = self.lent;
-        let (from, to) = self.watched();
-        let watched = unsafe { slice::from_raw_parts(self.start.add(from), to - from) };
-        let kept = |range: std::ops::Range<usize>| range.clone().all(|i| watched[i - from] == pattern(i));
+        let Range { start, end } = self.watched();
+        let text_at = self.lent.start - self.beside.len();
+        let bytes = |range: Range<usize>| unsafe { slice::from_raw_parts(self.start.add(range.start), range.len()) };
+        let kept = |range: Range<usize>| bytes(range.clone()).iter().zip(range).all(|(&b, at)| b == pattern(at));
 
-        (kept(from..at) && kept(at + n..to)).then(|| &watched[at - from..at - from + n])
+        (kept(start..text_at) && bytes(text_at..self.lent.start) == self.beside && kept(self.lent.end..end))
+            .then(|| bytes(self.lent.clone()))
     }
 
     /// Whether the lent buffer has this text at its start, and the pattern behind it.
     pub fn has(&self, text: &[u8]) -> bool {
-        let at = self.lent.0 + text.len();
+        let at = self.lent.start + text.len();
 
         self.left().is_some_and(|left| {
             left.strip_prefix(text)
@@ -128,9 +152,9 @@ impl Room {
         })
     }
 
-    fn watched(&self) -> (usize, usize) {
-        let (at, n) = self.lent;
-        (at.saturating_sub(MARGIN), (at + n + MARGIN).min(self.len))
+    fn watched(&self) -> Range<usize> {
+        let before = self.lent.start.saturating_sub(self.beside.len() + MARGIN);
+        before..(self.lent.end + MARGIN).min(self.len)
     }
 }
 

@@ -77,6 +77,7 @@ fn main() -> ExitCode {
 
     in_order(&mut report, &groups, &options);
     at_random(&mut report, &groups, &options);
+    watch::stop();
     report.print();
     ExitCode::from(u8::from(report.differ() > 0))
 }

@@ -133,16 +133,25 @@ pub fn damage(dice: &mut Dice, text: &mut Vec<u8>, marks: &[u8]) {
     }
 }
 
+/// Hands out the numbers beside those where a reader has to stop, or where a number of 32 or 64 bits begins anew, with zeros
+/// before them and digits behind them.
+pub fn beside_greatest(mut f: impl FnMut(&str)) {
+    let ends = (0..=5)
+        .flat_map(|k| [k << 32, k << 64])
+        .chain([10_u128.pow(19), 10_u128.pow(20)]);
+
+    for n in ends.flat_map(|end| end.saturating_sub(11)..=end + 11) {
+        for zeros in (0..3).chain([9, 10, 18, 19, 20, 21, 40]) {
+            for behind in ["", "0", "1", "9", "00", "16"] {
+                f(&format!("{}{n}{behind}", "0".repeat(zeros)));
+            }
+        }
+    }
+}
+
 /// Digits: of any count, with zeros before them, or beside a number where a reader has to stop.
 pub fn digits(dice: &mut Dice) -> Vec<u8> {
-    let near = [
-        1,
-        10,
-        u64::from(u32::MAX),
-        1 << 53,
-        10_000_000_000_000_000_000,
-        u64::MAX,
-    ];
+    let near = [1, 10, 1 << 32, 1 << 53, 10_u128.pow(19), 1 << 64, 1 << 65];
     let mut text = Vec::new();
 
     if dice.once_in(4) {
@@ -156,8 +165,10 @@ pub fn digits(dice: &mut Dice) -> Vec<u8> {
         }
         1 => text.extend(dice.number().to_string().bytes()),
         2 => {
-            let n = u128::from(dice.one_of(&near)) + dice.below(5) as u128;
-            text.extend((n - n.min(2)).to_string().bytes());
+            let n = dice.one_of(&near) + dice.below(20) as u128;
+            text.extend(n.saturating_sub(10).to_string().bytes());
+            let len = dice.below(3);
+            text.extend(dice.text(len, b"0123456789"));
         }
         _ => text.extend(dice.below(1000).to_string().bytes()),
     }

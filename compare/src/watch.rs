@@ -2,8 +2,9 @@
 
 use std::{
     ffi::c_int,
+    io::{self, Write},
     process,
-    sync::atomic::{AtomicPtr, AtomicU64, AtomicUsize, Ordering::Relaxed},
+    sync::atomic::{AtomicBool, AtomicPtr, AtomicU64, AtomicUsize, Ordering::Relaxed},
     thread,
     time::{Duration, Instant},
 };
@@ -17,6 +18,7 @@ const SIGSEGV: c_int = 11;
 const PATIENCE: Duration = Duration::from_secs(60);
 
 static BEGUN: AtomicU64 = AtomicU64::new(0);
+static DONE: AtomicBool = AtomicBool::new(false);
 static CALL: AtomicUsize = AtomicUsize::new(0);
 static CASE: AtomicPtr<Case<'static>> = AtomicPtr::new(std::ptr::null_mut());
 
@@ -69,12 +71,22 @@ pub fn start() {
                 ends("does not end");
             }
 
-            eprintln!(
-                "compare: {now} comparisons, now {}",
+            // In one piece, so that it never stands within another line.
+            let line = format!(
+                "compare: {now} comparisons, now {}\n",
                 Call::ALL[CALL.load(Relaxed)].name()
             );
+
+            if DONE.load(Relaxed) || io::stderr().write_all(line.as_bytes()).is_err() {
+                return;
+            }
         }
     });
+}
+
+/// Shows no more progress.
+pub fn stop() {
+    DONE.store(true, Relaxed);
 }
 
 /// Ends the run with the call under way. It stopped in foreign code that holds no lock, so that printing is safe.
