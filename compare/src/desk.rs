@@ -12,45 +12,60 @@ const LONGEST: usize = 4 << 20;
 /// Texts shorter than this stand right before the output buffer now and then.
 const BESIDE: usize = 4096;
 
+/// What the turns advance by, the golden ratio's share of 64 bits, so that the ways come in no short rhythm and each of them
+/// meets each case that a loop makes.
+const STRIDE: u64 = 0x9e37_79b9_7f4a_7c15;
+
 pub struct Desk {
     texts: Texts,
     tags: Texts,
     room: Room,
     turn: u64,
-    side: Side,
+    way: u64,
 }
 
 impl Desk {
+    /// The ways that memory is lent: on one side of the fences or the other, an output buffer right behind its text or far
+    /// away, and no bytes by a null pointer or another.
+    pub const WAYS: u64 = 8;
+
     pub fn new() -> Self {
         Self {
             texts: Texts::new(LONGEST),
             tags: Texts::new(LONGEST),
             room: Room::new(LONGEST),
             turn: 0,
-            side: Side::Last,
+            way: 0,
         }
     }
 
-    /// Takes another side of the fences for one call in four, and another form of the empty text for every second.
+    /// Goes on to another way.
     pub fn turn(&mut self) {
-        self.turn += 1;
-        self.side = if self.turn.is_multiple_of(4) {
-            Side::First
-        } else {
-            Side::Last
-        };
-        ours::set_empty_is_null(self.turn % 4 < 2);
+        self.turn = self.turn.wrapping_add(STRIDE);
+        self.take(self.turn / (u64::MAX / Self::WAYS + 1));
+    }
+
+    pub fn take(&mut self, way: u64) {
+        self.way = way;
+        ours::set_empty_is_null(way.is_multiple_of(2));
+    }
+
+    fn side(&self) -> Side {
+        if self.way < 2 { Side::First } else { Side::Last }
+    }
+
+    fn is_behind(&self) -> bool {
+        self.way == 2
     }
 
     pub fn text(&mut self, text: &[u8]) -> &[u8] {
-        self.texts.lend(text, self.side)
+        let side = self.side();
+        self.texts.lend(text, side)
     }
 
     pub fn text_and_tag(&mut self, case: Case<'_>) -> (&[u8], &[u8]) {
-        (
-            self.texts.lend(case.text, self.side),
-            self.tags.lend(case.tag, self.side),
-        )
+        let side = self.side();
+        (self.texts.lend(case.text, side), self.tags.lend(case.tag, side))
     }
 
     /// Compares a writer's answer, and what it left in and beside its buffer, with the text expected or a refusal that comes
@@ -80,10 +95,11 @@ impl Desk {
             b""
         };
 
-        let (text, out) = if self.turn % 8 == 5 && case.text.len() < BESIDE {
+        let side = self.side();
+        let (text, out) = if self.is_behind() && case.text.len() < BESIDE {
             self.room.lend_behind(case.text, room)
         } else {
-            (self.texts.lend(case.text, self.side), self.room.lend(room, self.side))
+            (self.texts.lend(case.text, side), self.room.lend(room, side))
         };
         same(write(text, out), answer)?;
 

@@ -31,7 +31,7 @@ use options::{End, Options};
 use report::Report;
 use texts::Dice;
 
-/// Longer than the longest text of any group that is tried with every alphabet letter in every place.
+/// The length up to which some group tries every text of an alphabet.
 const EVERY: usize = 12;
 
 struct Group {
@@ -40,6 +40,9 @@ struct Group {
     sweep: fn(&mut Report),
     random: fn(&mut Report, &mut Dice),
 }
+
+/// A group and its number among all, so that a case is the same when its group is run alone.
+type Numbered = (u64, &'static Group);
 
 macro_rules! groups {
     ($($name:ident),*) => {
@@ -52,10 +55,10 @@ macro_rules! groups {
     };
 }
 
-const GROUPS: [Group; 5] = groups![lines, columns, attributes, directives, coding];
+static GROUPS: [Group; 5] = groups![lines, columns, attributes, directives, coding];
 
 fn main() -> ExitCode {
-    let names = GROUPS.map(|group| group.name);
+    let names: Vec<&str> = GROUPS.iter().map(|group| group.name).collect();
     let options = match Options::read(env::args().skip(1), &names) {
         Ok(options) => options,
         Err(what) => {
@@ -70,9 +73,9 @@ fn main() -> ExitCode {
 
     watch::start();
     let mut report = Report::new();
-    let groups: Vec<&Group> = GROUPS
-        .iter()
-        .filter(|group| options.only.as_ref().is_none_or(|only| only == group.name))
+    let groups: Vec<Numbered> = (0..)
+        .zip(&GROUPS)
+        .filter(|(_, group)| options.only.as_ref().is_none_or(|only| only == group.name))
         .collect();
 
     in_order(&mut report, &groups, &options);
@@ -83,9 +86,9 @@ fn main() -> ExitCode {
 }
 
 /// Every short text of each group, and the sweeps.
-fn in_order(report: &mut Report, groups: &[&Group], options: &Options) {
+fn in_order(report: &mut Report, groups: &[Numbered], options: &Options) {
     for len in 0..=EVERY {
-        for group in groups {
+        for (_, group) in groups {
             if options.over(report.elapsed() * 2) {
                 println!("every text shorter than {len} bytes of its alphabet, and no sweep: more need more time\n");
                 return;
@@ -96,7 +99,7 @@ fn in_order(report: &mut Report, groups: &[&Group], options: &Options) {
         }
     }
 
-    for group in groups {
+    for (_, group) in groups {
         report.stage(format!("{}: sweep over lengths and places", group.name));
         (group.sweep)(report);
     }
@@ -109,7 +112,7 @@ fn in_order(report: &mut Report, groups: &[&Group], options: &Options) {
 }
 
 /// Random cases, one of each group in turn.
-fn at_random(report: &mut Report, groups: &[&Group], options: &Options) {
+fn at_random(report: &mut Report, groups: &[Numbered], options: &Options) {
     let cases = match options.end {
         End::Cases(n) => n,
         End::Seconds(_) => u64::MAX,
@@ -117,24 +120,15 @@ fn at_random(report: &mut Report, groups: &[&Group], options: &Options) {
     let mut number = 0;
 
     while number < cases && !options.over(report.elapsed()) {
-        for (place, group) in groups.iter().enumerate() {
+        for (place, group) in groups {
             report.stage(format!("{}: case {number} of seed {}", group.name, options.seed));
-            let place = if groups.len() == 1 { own_place(group) } else { place };
-            (group.random)(report, &mut Dice::new([options.seed, place as u64, number]));
+            (group.random)(report, &mut Dice::new([options.seed, *place, number]));
         }
 
         number += 1;
     }
 
     println!("{number} random cases of each group, seed {}\n", options.seed);
-}
-
-/// The place among all groups, so that a case is the same when its group is run alone.
-fn own_place(group: &Group) -> usize {
-    GROUPS
-        .iter()
-        .position(|other| other.name == group.name)
-        .unwrap_or_default()
 }
 
 impl Options {

@@ -111,9 +111,9 @@ impl Report {
         let desk = &mut self.desk;
         let mut differs = |case: Case<'_>| {
             watch::begins(call, case);
-            // Each side of the fences, and each form of the empty text, since the difference may need one of them.
-            (0..4).find_map(|_| {
-                desk.turn();
+            // In every way that memory is lent, since the difference may need one of them.
+            (0..Desk::WAYS).find_map(|way| {
+                desk.take(way);
                 check(desk, case).err()
             })
         };
