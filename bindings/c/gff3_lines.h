@@ -1,10 +1,31 @@
 /* GFF3 lines, read with proof.
  *
- * Every function takes any bytes and numbers, and ends. A pointer may be null where its length is 0. Places are offsets into the text
- * that was handed in: from `start`, before `end`; a text is never copied or kept. A cursor beyond its text counts as at its end.
+ * Every function takes any bytes and numbers, ends, and keeps nothing: there is no state, and any number of threads may call. A pointer
+ * may be null where its length is 0. An output buffer may not overlap a text of the same call.
  *
- * `refused` is 0, or the number of the refusal (docs/REFUSALS in the README lists them); then every other field is 0. A refused call
- * changes no byte of its output buffer. Refusal 22, the output is longer than the buffer, carries the length needed in `length`.
+ * Places are offsets into the text that was handed in: from `start`, before `end`; a text is never copied. A cursor beyond its text
+ * counts as at its end. Where `done` or `missing` is 1, or `is`, `has_value` or `found` is 0, every field
+ * behind it is 0.
+ *
+ * `refused` is 0, or the number of the refusal, and then every other field is 0, but for `length` with 22:
+ *
+ *    1            the line has fewer than eight tabs, or the bounds are not the line's own
+ *    2            not a position
+ *    3            not a strand
+ *    4            not a phase
+ *    5            attribute text is left without `=`
+ *    6            the text of a version, a region or a build is empty
+ *    7, 8, 9      version: major, minor, patch not valid
+ *    10           region: name missing
+ *    11, 12       region: start missing, not valid
+ *    13, 14       region: end missing, not valid
+ *    15, 16       build: source, name missing
+ *    17           not a score
+ *    22           the output is longer than the buffer; `length` is the length needed
+ *    24           the text to encode has over 1,048,576 bytes
+ *
+ * Of several, the one that a function's comment names first is given. A refused call changes no byte of its output buffer, and a call
+ * that is not refused changes none past the length that it reports.
  */
 #ifndef GFF3_LINES_H
 #define GFF3_LINES_H
@@ -18,8 +39,8 @@ extern "C" {
 
 /* ---- lines ---- */
 
-/* The next line from `at` on, without its line feed and one carriage return just before it, and the cursor behind it. `done`: none is
- * left. */
+/* The next line from `at` on, without its line feed and one carriage return just before it, and the cursor behind it. `done` is 1 where
+ * none is left. Begin with 0. */
 typedef struct {
     uint64_t done;
     size_t start;
@@ -29,7 +50,7 @@ typedef struct {
 
 gff3_line gff3_next_line(const uint8_t *text, size_t text_len, size_t at);
 
-/* What a line is. */
+/* What a line is: `##` begins a directive, else `#` a comment; every other line, the empty one included, is a record. */
 enum { GFF3_DIRECTIVE = 0, GFF3_COMMENT = 1, GFF3_RECORD = 2 };
 
 uint32_t gff3_kind(const uint8_t *line, size_t line_len);
@@ -57,7 +78,7 @@ gff3_directive_text gff3_directive(const uint8_t *line, size_t line_len);
 
 /* ---- columns of a record ---- */
 
-/* One past each of the first eight tabs. */
+/* One past each of the first eight tabs, where columns 1 to 8 end; column 9 is the rest. */
 typedef struct {
     size_t reference_sequence_name_end;
     size_t source_end;
@@ -79,7 +100,7 @@ gff3_indexed gff3_index(const uint8_t *line, size_t line_len);
 
 /* The readers below take a line and its bounds, and refuse 1 where they are not the line's own. */
 
-/* A raw column, 1 to 9, as a place; another number counts as 9. */
+/* A raw column, 1 to 9, as a place; another number counts as 9. Refusal 1. */
 typedef struct {
     uint64_t refused;
     size_t start;
@@ -120,7 +141,8 @@ gff3_written gff3_text(const uint8_t *line, size_t line_len, gff3_bounds bounds,
 
 /* ---- column 9 ---- */
 
-/* The attribute at a cursor, as it stands, and the cursor behind it. Refusal 5: text is left without `=`. */
+/* The attribute at a cursor, as it stands, and the cursor behind it. `done` is 1 where none is left. Refusal 5; the cursor stays, and
+ * the next call answers the same. Begin with 0. */
 typedef struct {
     uint64_t refused;
     uint64_t done;
@@ -133,8 +155,8 @@ typedef struct {
 
 gff3_field gff3_next_field(const uint8_t *column, size_t column_len, size_t at);
 
-/* The next of the values of an attribute, as it stands, and the cursor behind it: `next`, and `out`, whether that was the last. Begin
- * with 0 and 0. */
+/* The next of the values of an attribute, as it stands, and the cursor behind it: `next`, and `out`, whether that was the last. `done`
+ * is 1 where none is left. Begin with 0 and 0. */
 typedef struct {
     uint64_t done;
     size_t start;
@@ -145,7 +167,8 @@ typedef struct {
 
 gff3_value gff3_next_value(const uint8_t *value, size_t value_len, size_t at, uint64_t out);
 
-/* The raw value of the first attribute whose decoded tag is `tag`. `found` is 0 where it is absent. Refusal 5 comes before a match. */
+/* The raw value of the first attribute whose decoded tag is `tag`. `found` is 0 where it is absent. Refusal 5, where it comes before a
+ * match. */
 typedef struct {
     uint64_t refused;
     uint64_t found;
@@ -160,7 +183,7 @@ uint32_t gff3_no_attributes(const uint8_t *column, size_t column_len);
 
 /* ---- typed values of directives ---- */
 
-/* `parts` says how many of major, minor and patch are there. Refusals 6 to 9. */
+/* `gff-version`: `parts` says how many of major, minor and patch are there, and one that is not is 0. Refusals 6, 7, 8, 9. */
 typedef struct {
     uint64_t refused;
     uint64_t parts;
@@ -171,7 +194,7 @@ typedef struct {
 
 gff3_version_value gff3_version(const uint8_t *text, size_t text_len);
 
-/* Refusals 6, 10 to 14. */
+/* `sequence-region`; the name is a place. Refusals 6, 10, 11, 12, 13, 14. */
 typedef struct {
     uint64_t refused;
     size_t name_start;
@@ -182,7 +205,7 @@ typedef struct {
 
 gff3_region_value gff3_region(const uint8_t *text, size_t text_len);
 
-/* Refusals 6, 15, 16. */
+/* `genome-build`, as places. Refusals 6, 15, 16. */
 typedef struct {
     uint64_t refused;
     size_t source_start;
@@ -195,13 +218,13 @@ gff3_build_value gff3_build(const uint8_t *text, size_t text_len);
 
 /* ---- percent coding, numbers ---- */
 
-/* Refusal 22. */
+/* A text, percent-decoded. Refusal 22. */
 gff3_written gff3_decode(const uint8_t *text, size_t text_len, uint8_t *out, size_t out_len);
 
 /* The set of bytes that are escaped; another number counts as GFF3_ATTRIBUTE. */
 enum { GFF3_NAME = 1, GFF3_COLUMN = 2, GFF3_ATTRIBUTE = 3 };
 
-/* Refusals 24, 22. */
+/* A text, percent-encoded. Refusals 24, 22. */
 gff3_written gff3_encode(uint32_t set, const uint8_t *text, size_t text_len, uint8_t *out, size_t out_len);
 
 /* A position, as columns 4 and 5 have it: 1 to 18446744073709551615. Refusal 2. */

@@ -7,7 +7,7 @@ ghost use mathlib.Core.Path.{_≡_};
 ghost use Rattle.directives.specs.GenomeBuild as build;
 ghost use Rattle.directives.specs.GffVersion as version;
 ghost use Rattle.directives.specs.SequenceRegion as region;
-ghost use Rattle.exports.specs.Directive.{versionOf, regionOf, buildOf};
+ghost use Rattle.exports.specs.Directive.{partsOf, versionOf, regionOf, buildOf};
 
 #[repr(C)]
 pub struct Gff3VersionValue {
@@ -36,41 +36,47 @@ pub struct Gff3BuildValue {
     pub name_end: usize,
 }
 
+// How many parts there are, and each; a part that is absent is 0.
+fn parts_of(major: u32, minor: Part, patch: Part) -> Gff3VersionValue
+    ensures { λ r. ⌜ r ≡ partsOf major minor patch ⌝ }
+{
+    match minor {
+        Part::Absent => Gff3VersionValue {
+            refused: 0,
+            parts: 1,
+            major: major as u64,
+            minor: 0,
+            patch: 0,
+        },
+        Part::Is(minor) => match patch {
+            Part::Absent => Gff3VersionValue {
+                refused: 0,
+                parts: 2,
+                major: major as u64,
+                minor: minor as u64,
+                patch: 0,
+            },
+            Part::Is(patch) => Gff3VersionValue {
+                refused: 0,
+                parts: 3,
+                major: major as u64,
+                minor: minor as u64,
+                patch: patch as u64,
+            },
+        },
+    }
+}
+
 // The value of `gff-version`. Refusals 6 to 9.
 #[no_mangle]
 pub extern "C" fn gff3_version(text: &[u8]) -> Gff3VersionValue
     ensures { λ r. ⌜ r ≡ versionOf (version.versionOf (now (text .entry))) ⌝ }
 {
     match directives::parse_gff_version(text) {
-        VersionRead::Is(v) => {
-            let major = v.major as u64;
-            let minor = v.minor;
-            let patch = v.patch;
-            match minor {
-                Part::Absent => Gff3VersionValue {
-                    refused: 0,
-                    parts: 1,
-                    major,
-                    minor: 0,
-                    patch: 0,
-                },
-                Part::Is(minor) => match patch {
-                    Part::Absent => Gff3VersionValue {
-                        refused: 0,
-                        parts: 2,
-                        major,
-                        minor: minor as u64,
-                        patch: 0,
-                    },
-                    Part::Is(patch) => Gff3VersionValue {
-                        refused: 0,
-                        parts: 3,
-                        major,
-                        minor: minor as u64,
-                        patch: patch as u64,
-                    },
-                },
-            }
+        VersionRead::Is(version) => {
+            let minor = version.minor;
+            let patch = version.patch;
+            parts_of(version.major, minor, patch)
         }
         VersionRead::Refused(n) => Gff3VersionValue {
             refused: n as u64,

@@ -1,6 +1,7 @@
 // The columns of a record.
 use super::coding::Gff3Number;
 use super::coding::Gff3Written;
+use buffer::Written;
 use columns::Bounds;
 use columns::Column;
 use columns::ColumnRead;
@@ -11,10 +12,11 @@ use columns::ScoreRead;
 use columns::Strand;
 use columns::StrandRead;
 ghost use mathlib.Core.Path.{_≡_};
+ghost use Rattle.buffer.specs.Answer.{Wrote};
 ghost use Rattle.percent.specs.Percent.{decoded};
 ghost use Rattle.columns.specs.declared.column.Column.the-variants.{Start, End};
 ghost use Rattle.columns.specs.Columns.{indexed, columnText};
-ghost use Rattle.columns.specs.Fields.{columnAt, positionAt, scoreAt, strandAt, phaseAt, text-reasons};
+ghost use Rattle.columns.specs.Fields.{columnAt, positionAt, scoreAt, strandNumber, strandAt, phaseNumber, phaseAt, text-reasons};
 ghost use Rattle.exports.specs.Coding.{positionOf, Writes};
 ghost use Rattle.exports.specs.Record.{boundsIn, columnOf, textColumnOf, indexedOf, placeOf, scoreOf, strandOf, phaseOf};
 
@@ -181,6 +183,17 @@ pub extern "C" fn gff3_score(line: &[u8], bounds: Gff3Bounds) -> Gff3ScoreText
     }
 }
 
+fn strand_number(strand: Strand) -> u64
+    ensures { λ r. ⌜ r ≡ strandNumber strand ⌝ }
+{
+    match strand {
+        Strand::None => 0,
+        Strand::Forward => 1,
+        Strand::Reverse => 2,
+        Strand::Unknown => 3,
+    }
+}
+
 // Column 7: 0 to 3 for `.` `+` `-` `?`. Refusals 1, 3.
 #[no_mangle]
 pub extern "C" fn gff3_strand(line: &[u8], bounds: Gff3Bounds) -> Gff3Number
@@ -189,17 +202,23 @@ pub extern "C" fn gff3_strand(line: &[u8], bounds: Gff3Bounds) -> Gff3Number
     match columns::strand_at(line, bounds_in(bounds)) {
         StrandRead::Is(strand) => Gff3Number {
             refused: 0,
-            value: match strand {
-                Strand::None => 0,
-                Strand::Forward => 1,
-                Strand::Reverse => 2,
-                Strand::Unknown => 3,
-            },
+            value: strand_number(strand),
         },
         StrandRead::Refused(n) => Gff3Number {
             refused: n as u64,
             value: 0,
         },
+    }
+}
+
+fn phase_number(phase: Phase) -> u64
+    ensures { λ r. ⌜ r ≡ phaseNumber phase ⌝ }
+{
+    match phase {
+        Phase::Zero => 0,
+        Phase::One => 1,
+        Phase::Two => 2,
+        Phase::None => 3,
     }
 }
 
@@ -211,12 +230,7 @@ pub extern "C" fn gff3_phase(line: &[u8], bounds: Gff3Bounds) -> Gff3Number
     match columns::phase_at(line, bounds_in(bounds)) {
         PhaseRead::Is(phase) => Gff3Number {
             refused: 0,
-            value: match phase {
-                Phase::Zero => 0,
-                Phase::One => 1,
-                Phase::Two => 2,
-                Phase::None => 3,
-            },
+            value: phase_number(phase),
         },
         PhaseRead::Refused(n) => Gff3Number {
             refused: n as u64,
@@ -225,7 +239,18 @@ pub extern "C" fn gff3_phase(line: &[u8], bounds: Gff3Bounds) -> Gff3Number
     }
 }
 
-// Columns 1 to 3, decoded into a lent buffer; another number counts as 3. Refusals 1, 22.
+// Columns 1 to 3 by their numbers, decoded into a lent buffer; another number counts as 3.
+fn text(line: &[u8], bounds: Bounds, column: u32, out: &mut [u8]) -> Written
+    ensures { λ r. ⌜ Wrote (text-reasons (now (line .entry)) bounds) (decoded (columnText (textColumnOf column) (now (line .entry)))) (now (out .entry)) (now (out .exit)) r ⌝ }
+{
+    match column {
+        1 => columns::reference_sequence_name(line, bounds, out),
+        2 => columns::source(line, bounds, out),
+        _ => columns::ty(line, bounds, out),
+    }
+}
+
+// Columns 1 to 3, decoded. Refusals 1, 22.
 #[no_mangle]
 pub extern "C" fn gff3_text(
     line: &[u8],
@@ -235,10 +260,5 @@ pub extern "C" fn gff3_text(
 ) -> Gff3Written
     ensures { λ r. ⌜ Writes (text-reasons (now (line .entry)) (boundsIn bounds)) (decoded (columnText (textColumnOf column) (now (line .entry)))) (now (out .entry)) (now (out .exit)) r ⌝ }
 {
-    let b = bounds_in(bounds);
-    match column {
-        1 => super::coding::written_of(columns::reference_sequence_name(line, b, out)),
-        2 => super::coding::written_of(columns::source(line, b, out)),
-        _ => super::coding::written_of(columns::ty(line, b, out)),
-    }
+    super::coding::written_of(text(line, bounds_in(bounds), column, out))
 }

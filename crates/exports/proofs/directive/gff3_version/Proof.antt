@@ -1,4 +1,4 @@
--- `gff3_version` answers `versionOf` of what is read, by its parts. Assumes nothing.
+-- `gff3_version` answers `versionOf` of what is read. Assumes nothing.
 use borrow.Author.Needs.{needs}
 use Rattle.exports.proofs.directive.gff3_version.Statement.{statement}
 use Rattle.exports.proofs.directive.gff3_version.Tie as tie
@@ -9,17 +9,8 @@ gff3-version-spec =
     (tie.spec
     (λ c κs. tt)
     (λ c. search needs)
+    (λ c κs. tt)
     (λ c. search needs)
     (λ c. search needs)
-    (λ c. search needs)
-    (λ c. search needs)
-    (λ c. search needs)
-    (λ c. search needs)
-    (λ c. search needs)
-    (λ c. search needs)
-    (λ c. search needs)
-    (λ c. search needs)
-    (λ c. let v = c .before .before .before .before in rw (← v .before .before .parse-gff-version .ensures, v .v .given .1, c .enum-told .given .1))
-    (λ c. let m = c .before .before .before in let v = m .before .before .before .before in rw (← v .before .before .parse-gff-version .ensures, v .v .given .1, m .minor .given .1, c .enum-told2 .given .1))
-    (λ c. let p = c .before in let m = p .before .before .before in let v = m .before .before .before .before in rw (← v .before .before .parse-gff-version .ensures, v .v .given .1, m .minor .given .1, p .patch .given .1))
+    (λ c. let d = c .before .before in rw (← d .before .before .parse-gff-version .ensures, d .version .given .1) (c .parts-of .ensures))
     (λ c. let d = c .before in rw (← d .before .before .parse-gff-version .ensures, d .n .given .1)))

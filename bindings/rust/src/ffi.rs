@@ -1,0 +1,150 @@
+//! The C functions, as `bindings/c/gff3_lines.h` has them.
+//!
+//! Each takes any numbers. What a call owes: each pointer is that of a slice, its length behind it, and an output buffer overlaps no text.
+
+use super::Bounds;
+
+#[repr(C)]
+pub struct Line {
+    pub done: u64,
+    pub start: usize,
+    pub end: usize,
+    pub next: usize,
+}
+
+#[repr(C)]
+pub struct CommentText {
+    pub is: u64,
+    pub start: usize,
+    pub end: usize,
+}
+
+#[repr(C)]
+pub struct DirectiveText {
+    pub is: u64,
+    pub key_start: usize,
+    pub key_end: usize,
+    pub has_value: u64,
+    pub value_start: usize,
+    pub value_end: usize,
+}
+
+#[repr(C)]
+pub struct Indexed {
+    pub refused: u64,
+    pub bounds: Bounds,
+}
+
+#[repr(C)]
+pub struct Place {
+    pub refused: u64,
+    pub start: usize,
+    pub end: usize,
+}
+
+#[repr(C)]
+pub struct Number {
+    pub refused: u64,
+    pub value: u64,
+}
+
+#[repr(C)]
+pub struct ScoreText {
+    pub refused: u64,
+    pub missing: u64,
+    pub start: usize,
+    pub end: usize,
+}
+
+#[repr(C)]
+pub struct Written {
+    pub refused: u64,
+    pub length: usize,
+}
+
+#[repr(C)]
+pub struct Field {
+    pub refused: u64,
+    pub done: u64,
+    pub tag_start: usize,
+    pub tag_end: usize,
+    pub value_start: usize,
+    pub value_end: usize,
+    pub next: usize,
+}
+
+#[repr(C)]
+pub struct Value {
+    pub done: u64,
+    pub start: usize,
+    pub end: usize,
+    pub next: usize,
+    pub out: u64,
+}
+
+#[repr(C)]
+pub struct Found {
+    pub refused: u64,
+    pub found: u64,
+    pub start: usize,
+    pub end: usize,
+}
+
+#[repr(C)]
+pub struct VersionValue {
+    pub refused: u64,
+    pub parts: u64,
+    pub major: u64,
+    pub minor: u64,
+    pub patch: u64,
+}
+
+#[repr(C)]
+pub struct RegionValue {
+    pub refused: u64,
+    pub name_start: usize,
+    pub name_end: usize,
+    pub start: u64,
+    pub end: u64,
+}
+
+#[repr(C)]
+pub struct BuildValue {
+    pub refused: u64,
+    pub source_start: usize,
+    pub source_end: usize,
+    pub name_start: usize,
+    pub name_end: usize,
+}
+
+unsafe extern "C" {
+    pub fn gff3_next_line(text: *const u8, text_len: usize, at: usize) -> Line;
+    pub fn gff3_kind(line: *const u8, line_len: usize) -> u32;
+    pub fn gff3_comment(line: *const u8, line_len: usize) -> CommentText;
+    pub fn gff3_directive(line: *const u8, line_len: usize) -> DirectiveText;
+    pub fn gff3_index(line: *const u8, line_len: usize) -> Indexed;
+    pub fn gff3_column(line: *const u8, line_len: usize, bounds: Bounds, column: u32) -> Place;
+    pub fn gff3_start(line: *const u8, line_len: usize, bounds: Bounds) -> Number;
+    pub fn gff3_end(line: *const u8, line_len: usize, bounds: Bounds) -> Number;
+    pub fn gff3_strand(line: *const u8, line_len: usize, bounds: Bounds) -> Number;
+    pub fn gff3_phase(line: *const u8, line_len: usize, bounds: Bounds) -> Number;
+    pub fn gff3_score(line: *const u8, line_len: usize, bounds: Bounds) -> ScoreText;
+    pub fn gff3_text(
+        line: *const u8,
+        line_len: usize,
+        bounds: Bounds,
+        column: u32,
+        out: *mut u8,
+        out_len: usize,
+    ) -> Written;
+    pub fn gff3_next_field(column: *const u8, column_len: usize, at: usize) -> Field;
+    pub fn gff3_next_value(value: *const u8, value_len: usize, at: usize, out: u64) -> Value;
+    pub fn gff3_find_tag(column: *const u8, column_len: usize, tag: *const u8, tag_len: usize) -> Found;
+    pub fn gff3_no_attributes(column: *const u8, column_len: usize) -> u32;
+    pub fn gff3_version(text: *const u8, text_len: usize) -> VersionValue;
+    pub fn gff3_region(text: *const u8, text_len: usize) -> RegionValue;
+    pub fn gff3_build(text: *const u8, text_len: usize) -> BuildValue;
+    pub fn gff3_decode(text: *const u8, text_len: usize, out: *mut u8, out_len: usize) -> Written;
+    pub fn gff3_encode(set: u32, text: *const u8, text_len: usize, out: *mut u8, out_len: usize) -> Written;
+    pub fn gff3_position(text: *const u8, text_len: usize) -> Number;
+}

@@ -1,0 +1,332 @@
+//! The columns of a record.
+
+use crate::{Attributes, Refusal, coding::filled, ffi};
+
+/// Where columns 1 to 8 end: one past each of the first eight tabs. Column 9 is the rest.
+///
+/// ```
+/// let record = gff3_lines::Record::new(b"a\tb\tc\t1\t2\t.\t.\t.\td=e")?;
+///
+/// assert_eq!(record.bounds().source_end, 4);
+/// # Ok::<(), gff3_lines::Refusal>(())
+/// ```
+#[repr(C)]
+#[derive(Clone, Copy, Debug, PartialEq, Eq, Hash)]
+pub struct Bounds {
+    /// Behind column 1.
+    pub reference_sequence_name_end: usize,
+    /// Behind column 2.
+    pub source_end: usize,
+    /// Behind column 3.
+    pub type_end: usize,
+    /// Behind column 4.
+    pub start_end: usize,
+    /// Behind column 5.
+    pub end_end: usize,
+    /// Behind column 6.
+    pub score_end: usize,
+    /// Behind column 7.
+    pub strand_end: usize,
+    /// Behind column 8.
+    pub phase_end: usize,
+}
+
+/// A column, by its number.
+///
+/// ```
+/// assert_eq!(gff3_lines::Column::Strand as u32, 7);
+/// ```
+#[derive(Clone, Copy, Debug, PartialEq, Eq, Hash)]
+pub enum Column {
+    /// Percent-encoded.
+    ReferenceSequenceName = 1,
+    /// Percent-encoded.
+    Source = 2,
+    /// Percent-encoded.
+    Type = 3,
+    /// A position.
+    Start = 4,
+    /// A position.
+    End = 5,
+    /// A token, or a dot.
+    Score = 6,
+    /// One of `.+-?`.
+    Strand = 7,
+    /// One of `.012`.
+    Phase = 8,
+    /// The rest of the line.
+    Attributes = 9,
+}
+
+/// A strand.
+///
+/// ```
+/// let record = gff3_lines::Record::new(b"a\tb\tc\t1\t2\t.\t-\t.\t.")?;
+///
+/// assert_eq!(record.strand()?, gff3_lines::Strand::Reverse);
+/// # Ok::<(), gff3_lines::Refusal>(())
+/// ```
+#[derive(Clone, Copy, Debug, PartialEq, Eq, Hash)]
+pub enum Strand {
+    /// `.`
+    None,
+    /// `+`
+    Forward,
+    /// `-`
+    Reverse,
+    /// `?`
+    Unknown,
+}
+
+/// A phase: how many bases to pass over to the next codon.
+///
+/// ```
+/// let record = gff3_lines::Record::new(b"a\tb\tCDS\t1\t2\t.\t-\t2\t.")?;
+///
+/// assert_eq!(record.phase()?, Some(gff3_lines::Phase::Two));
+/// # Ok::<(), gff3_lines::Refusal>(())
+/// ```
+#[derive(Clone, Copy, Debug, PartialEq, Eq, Hash)]
+pub enum Phase {
+    /// `0`
+    Zero,
+    /// `1`
+    One,
+    /// `2`
+    Two,
+}
+
+/// A line of nine columns, and where they end.
+///
+/// ```
+/// let record = gff3_lines::Record::new(b"sq%200\tlab\tgene\t8\t13\t0.5\t+\t.\tID=a")?;
+///
+/// assert_eq!(record.reference_sequence_name(), b"sq 0");
+/// assert_eq!((record.start()?, record.end()?), (8, 13));
+/// assert_eq!(record.score()?, Some(&b"0.5"[..]));
+/// # Ok::<(), gff3_lines::Refusal>(())
+/// ```
+#[derive(Clone, Copy, Debug, PartialEq, Eq, Hash)]
+pub struct Record<'a> {
+    line: &'a [u8],
+    bounds: Bounds,
+}
+
+impl<'a> Record<'a> {
+    /// The record of a line without its line feed. Refusal 1: it has fewer than eight tabs.
+    ///
+    /// ```
+    /// use gff3_lines::{Record, Refusal};
+    ///
+    /// assert_eq!(Record::new(b"sq0"), Err(Refusal(1)));
+    /// ```
+    pub fn new(line: &'a [u8]) -> Result<Self, Refusal> {
+        // SAFETY: the line is a slice.
+        let indexed = unsafe { ffi::gff3_index(line.as_ptr(), line.len()) };
+        Refusal::check(indexed.refused)?;
+        Ok(Record {
+            line,
+            bounds: indexed.bounds,
+        })
+    }
+
+    /// The record of a line whose bounds were kept. Refusal 1: they are not the line's own.
+    ///
+    /// ```
+    /// use gff3_lines::{Record, Refusal};
+    ///
+    /// let bounds = Record::new(b"a\tb\tc\t1\t2\t.\t.\t.\t.")?.bounds();
+    ///
+    /// assert!(Record::with_bounds(b"x\ty\tz\t3\t4\t.\t.\t.\t.", bounds).is_ok());
+    /// assert_eq!(Record::with_bounds(b"xy\tz\tw\t3\t4\t.\t.\t.\t.", bounds), Err(Refusal(1)));
+    /// # Ok::<(), Refusal>(())
+    /// ```
+    pub fn with_bounds(line: &'a [u8], bounds: Bounds) -> Result<Self, Refusal> {
+        // SAFETY: the line is a slice.
+        let place = unsafe { ffi::gff3_column(line.as_ptr(), line.len(), bounds, 1) };
+        Refusal::check(place.refused)?;
+        Ok(Record { line, bounds })
+    }
+
+    /// The line.
+    ///
+    /// ```
+    /// assert_eq!(gff3_lines::Record::new(b"\t\t\t\t\t\t\t\t")?.line(), b"\t\t\t\t\t\t\t\t");
+    /// # Ok::<(), gff3_lines::Refusal>(())
+    /// ```
+    pub fn line(&self) -> &'a [u8] {
+        self.line
+    }
+
+    /// Where its columns end.
+    ///
+    /// ```
+    /// assert_eq!(gff3_lines::Record::new(b"\t\t\t\t\t\t\t\t")?.bounds().phase_end, 8);
+    /// # Ok::<(), gff3_lines::Refusal>(())
+    /// ```
+    pub fn bounds(&self) -> Bounds {
+        self.bounds
+    }
+
+    /// A column as it stands. Column 9 holds what is left of the line, further tabs included.
+    ///
+    /// ```
+    /// use gff3_lines::{Column, Record};
+    ///
+    /// let record = Record::new(b"sq%200\tb\tc\t1\t2\t.\t.\t.\td=e\tf")?;
+    ///
+    /// assert_eq!(record.column(Column::ReferenceSequenceName), b"sq%200");
+    /// assert_eq!(record.column(Column::Attributes), b"d=e\tf");
+    /// # Ok::<(), gff3_lines::Refusal>(())
+    /// ```
+    pub fn column(&self, column: Column) -> &'a [u8] {
+        // SAFETY: the line is a slice. The bounds are its own, so that 1 is not given.
+        let place = unsafe { ffi::gff3_column(self.line.as_ptr(), self.line.len(), self.bounds, column as u32) };
+        &self.line[place.start..place.end]
+    }
+
+    /// Column 1, decoded.
+    ///
+    /// ```
+    /// let record = gff3_lines::Record::new(b"sq%200\tb\tc\t1\t2\t.\t.\t.\t.")?;
+    ///
+    /// assert_eq!(record.reference_sequence_name(), b"sq 0");
+    /// # Ok::<(), gff3_lines::Refusal>(())
+    /// ```
+    pub fn reference_sequence_name(&self) -> Vec<u8> {
+        self.text(Column::ReferenceSequenceName)
+    }
+
+    /// Column 2, decoded. A dot is plain text.
+    ///
+    /// ```
+    /// assert_eq!(gff3_lines::Record::new(b"a\t.\tc\t1\t2\t.\t.\t.\t.")?.source(), b".");
+    /// # Ok::<(), gff3_lines::Refusal>(())
+    /// ```
+    pub fn source(&self) -> Vec<u8> {
+        self.text(Column::Source)
+    }
+
+    /// Column 3, decoded.
+    ///
+    /// ```
+    /// assert_eq!(gff3_lines::Record::new(b"a\tb\texon\t1\t2\t.\t.\t.\t.")?.ty(), b"exon");
+    /// # Ok::<(), gff3_lines::Refusal>(())
+    /// ```
+    pub fn ty(&self) -> Vec<u8> {
+        self.text(Column::Type)
+    }
+
+    fn text(&self, column: Column) -> Vec<u8> {
+        // SAFETY: the line is a slice, and the buffer another. The bounds are the line's own, so that 1 is not given.
+        filled(|out| unsafe {
+            ffi::gff3_text(
+                self.line.as_ptr(),
+                self.line.len(),
+                self.bounds,
+                column as u32,
+                out.as_mut_ptr(),
+                out.len(),
+            )
+        })
+        .unwrap_or_default()
+    }
+
+    /// Column 4, from 1 on. Refusal 2: not a position.
+    ///
+    /// ```
+    /// use gff3_lines::{Record, Refusal};
+    ///
+    /// assert_eq!(Record::new(b"a\tb\tc\t008\t2\t.\t.\t.\t.")?.start(), Ok(8));
+    /// assert_eq!(Record::new(b"a\tb\tc\t0\t2\t.\t.\t.\t.")?.start(), Err(Refusal(2)));
+    /// # Ok::<(), Refusal>(())
+    /// ```
+    pub fn start(&self) -> Result<u64, Refusal> {
+        // SAFETY: the line is a slice.
+        number(unsafe { ffi::gff3_start(self.line.as_ptr(), self.line.len(), self.bounds) })
+    }
+
+    /// Column 5, likewise. It may lie before the start.
+    ///
+    /// ```
+    /// assert_eq!(gff3_lines::Record::new(b"a\tb\tc\t8\t2\t.\t.\t.\t.")?.end(), Ok(2));
+    /// # Ok::<(), gff3_lines::Refusal>(())
+    /// ```
+    pub fn end(&self) -> Result<u64, Refusal> {
+        // SAFETY: the line is a slice.
+        number(unsafe { ffi::gff3_end(self.line.as_ptr(), self.line.len(), self.bounds) })
+    }
+
+    /// Column 6: the token as it stands, and `None` for a dot. Refusal 17: not a score.
+    ///
+    /// ```
+    /// use gff3_lines::{Record, Refusal};
+    ///
+    /// assert_eq!(Record::new(b"a\tb\tc\t1\t2\t-1.5e3\t.\t.\t.")?.score(), Ok(Some(&b"-1.5e3"[..])));
+    /// assert_eq!(Record::new(b"a\tb\tc\t1\t2\t.\t.\t.\t.")?.score(), Ok(None));
+    /// assert_eq!(Record::new(b"a\tb\tc\t1\t2\t\t.\t.\t.")?.score(), Err(Refusal(17)));
+    /// # Ok::<(), Refusal>(())
+    /// ```
+    pub fn score(&self) -> Result<Option<&'a [u8]>, Refusal> {
+        // SAFETY: the line is a slice.
+        let score = unsafe { ffi::gff3_score(self.line.as_ptr(), self.line.len(), self.bounds) };
+        Refusal::check(score.refused)?;
+        Ok((score.missing == 0).then(|| &self.line[score.start..score.end]))
+    }
+
+    /// Column 7. Refusal 3: not a strand.
+    ///
+    /// ```
+    /// use gff3_lines::{Record, Refusal};
+    ///
+    /// assert_eq!(Record::new(b"a\tb\tc\t1\t2\t.\t++\t.\t.")?.strand(), Err(Refusal(3)));
+    /// # Ok::<(), Refusal>(())
+    /// ```
+    pub fn strand(&self) -> Result<Strand, Refusal> {
+        // SAFETY: the line is a slice.
+        let strand = unsafe { ffi::gff3_strand(self.line.as_ptr(), self.line.len(), self.bounds) };
+        Ok(match number(strand)? {
+            0 => Strand::None,
+            1 => Strand::Forward,
+            2 => Strand::Reverse,
+            _ => Strand::Unknown,
+        })
+    }
+
+    /// Column 8, and `None` for a dot. Refusal 4: not a phase.
+    ///
+    /// ```
+    /// use gff3_lines::{Record, Refusal};
+    ///
+    /// assert_eq!(Record::new(b"a\tb\tc\t1\t2\t.\t.\t.\t.")?.phase(), Ok(None));
+    /// assert_eq!(Record::new(b"a\tb\tc\t1\t2\t.\t.\t3\t.")?.phase(), Err(Refusal(4)));
+    /// # Ok::<(), Refusal>(())
+    /// ```
+    pub fn phase(&self) -> Result<Option<Phase>, Refusal> {
+        // SAFETY: the line is a slice.
+        let phase = unsafe { ffi::gff3_phase(self.line.as_ptr(), self.line.len(), self.bounds) };
+        Ok(match number(phase)? {
+            0 => Some(Phase::Zero),
+            1 => Some(Phase::One),
+            2 => Some(Phase::Two),
+            _ => None,
+        })
+    }
+
+    /// Column 9.
+    ///
+    /// ```
+    /// let record = gff3_lines::Record::new(b"a\tb\tc\t1\t2\t.\t.\t.\tID=x")?;
+    ///
+    /// assert_eq!(record.attributes().get(b"ID")?, Some(&b"x"[..]));
+    /// # Ok::<(), gff3_lines::Refusal>(())
+    /// ```
+    pub fn attributes(&self) -> Attributes<'a> {
+        Attributes(self.column(Column::Attributes))
+    }
+}
+
+/// The value, or the refusal.
+pub(crate) fn number(number: ffi::Number) -> Result<u64, Refusal> {
+    Refusal::check(number.refused).map(|()| number.value)
+}

@@ -1,0 +1,238 @@
+//! What the readers answer at their edges.
+
+use gff3_lines::{
+    Attributes, Bounds, Build, Column, Directive, Kind, Line, Lines, Phase, Record, Refusal, Region, Set, Strand,
+    Values, Version, decode, encode, lines, position,
+};
+
+fn bytes<'a>(lines: Lines<'a>) -> Vec<&'a [u8]> {
+    lines.map(Line::bytes).collect()
+}
+
+/// A record of nine columns, with tabs between them.
+fn line(columns: [&str; 9]) -> String {
+    columns.join("\t")
+}
+
+#[test]
+fn lines_end_at_line_feeds() {
+    assert_eq!(bytes(lines(b"")), [] as [&[u8]; 0]);
+    assert_eq!(bytes(lines(b"\n\n")), [b"", b""]);
+    assert_eq!(bytes(lines(b"a\r\nb\r")), [&b"a"[..], b"b\r"]);
+    assert_eq!(bytes(lines(b"a\r\r\n")), [b"a\r"]);
+    assert_eq!(bytes(Lines::starting_at(b"\r\n", 1)), [b""]);
+    assert_eq!(bytes(Lines::starting_at(b"\r\n", usize::MAX)), [] as [&[u8]; 0]);
+}
+
+#[test]
+fn a_line_is_of_one_kind() {
+    assert_eq!(Line(b"#").kind(), Kind::Comment);
+    assert_eq!(Line(b"##").kind(), Kind::Directive);
+    assert_eq!(Line(b" ##").kind(), Kind::Record);
+
+    assert_eq!(Line(b"#").comment(), Some(&b""[..]));
+    assert_eq!(Line(b"a").comment(), None);
+    assert_eq!(Line(b"##").directive(), Some(Directive { key: b"", value: None }));
+    assert_eq!(
+        Line(b"##a\t\tb").directive(),
+        Some(Directive {
+            key: b"a",
+            value: Some(b"\tb")
+        })
+    );
+    assert_eq!(Line(b"#a b").directive(), None);
+}
+
+#[test]
+fn a_record_has_nine_columns() {
+    let line = line(["sq%200", "l%61b", "CDS", "8", "13", "-1.5e3", "-", "2", "ID=a\tb"]);
+    let record = Record::new(line.as_bytes()).unwrap();
+
+    assert_eq!(record.line(), line.as_bytes());
+    assert_eq!(record.reference_sequence_name(), b"sq 0");
+    assert_eq!(record.source(), b"lab");
+    assert_eq!(record.ty(), b"CDS");
+    assert_eq!(record.start(), Ok(8));
+    assert_eq!(record.end(), Ok(13));
+    assert_eq!(record.score(), Ok(Some(&b"-1.5e3"[..])));
+    assert_eq!(record.strand(), Ok(Strand::Reverse));
+    assert_eq!(record.phase(), Ok(Some(Phase::Two)));
+    assert_eq!(record.attributes(), Attributes(b"ID=a\tb"));
+
+    let columns = [
+        (Column::ReferenceSequenceName, "sq%200"),
+        (Column::Source, "l%61b"),
+        (Column::Type, "CDS"),
+        (Column::Start, "8"),
+        (Column::End, "13"),
+        (Column::Score, "-1.5e3"),
+        (Column::Strand, "-"),
+        (Column::Phase, "2"),
+        (Column::Attributes, "ID=a\tb"),
+    ];
+    for (column, text) in columns {
+        assert_eq!(record.column(column), text.as_bytes());
+    }
+}
+
+#[test]
+fn a_record_of_no_bytes_has_nine_empty_columns() {
+    let record = Record::new(b"\t\t\t\t\t\t\t\t").unwrap();
+
+    assert_eq!(record.reference_sequence_name(), b"");
+    assert_eq!(record.column(Column::Attributes), b"");
+    assert!(record.attributes().is_empty());
+    assert_eq!(record.start(), Err(Refusal(2)));
+    assert_eq!(record.score(), Err(Refusal(17)));
+    assert_eq!(record.strand(), Err(Refusal(3)));
+    assert_eq!(record.phase(), Err(Refusal(4)));
+}
+
+#[test]
+fn every_strand_and_phase_is_read() {
+    let strands = [
+        (".", Strand::None),
+        ("+", Strand::Forward),
+        ("-", Strand::Reverse),
+        ("?", Strand::Unknown),
+    ];
+    for (text, strand) in strands {
+        let line = line(["", "", "", "", "", "", text, "", ""]);
+        assert_eq!(Record::new(line.as_bytes()).unwrap().strand(), Ok(strand));
+    }
+    let phases = [
+        (".", None),
+        ("0", Some(Phase::Zero)),
+        ("1", Some(Phase::One)),
+        ("2", Some(Phase::Two)),
+    ];
+    for (text, phase) in phases {
+        let line = line(["", "", "", "", "", "", "", text, ""]);
+        assert_eq!(Record::new(line.as_bytes()).unwrap().phase(), Ok(phase));
+    }
+}
+
+#[test]
+fn bounds_of_another_line_are_refused() {
+    let own = Record::new(b"a\tb\tc\td\te\tf\tg\th\ti").unwrap().bounds();
+    let shifted: [fn(&mut Bounds); 8] = [
+        |b| b.reference_sequence_name_end += 1,
+        |b| b.source_end += 1,
+        |b| b.type_end += 1,
+        |b| b.start_end += 1,
+        |b| b.end_end += 1,
+        |b| b.score_end += 1,
+        |b| b.strand_end += 1,
+        |b| b.phase_end = usize::MAX,
+    ];
+
+    assert_eq!(own.reference_sequence_name_end, 2);
+    assert_eq!(own.phase_end, 16);
+    for shift in shifted {
+        let mut bounds = own;
+        shift(&mut bounds);
+        assert_eq!(
+            Record::with_bounds(b"a\tb\tc\td\te\tf\tg\th\ti", bounds),
+            Err(Refusal(1))
+        );
+    }
+}
+
+#[test]
+fn a_walk_cuts_at_equals_signs_first() {
+    let tags = |column| {
+        Attributes(column)
+            .fields()
+            .map(|field| field.map(|f| (f.tag, f.value)))
+            .collect::<Vec<_>>()
+    };
+
+    assert_eq!(tags(b"a=1;b;c=2"), [Ok((&b"a"[..], &b"1"[..])), Ok((b"b;c", b"2"))]);
+    assert_eq!(tags(b"a=1;"), [Ok((&b"a"[..], &b"1"[..]))]);
+    assert_eq!(tags(b"a=1;;"), [Ok((&b"a"[..], &b"1"[..])), Err(Refusal(5))]);
+    assert_eq!(tags(b"="), [Ok((&b""[..], &b""[..]))]);
+    assert_eq!(tags(b"."), []);
+    assert_eq!(tags(b""), []);
+}
+
+#[test]
+fn values_are_cut_before_they_are_decoded() {
+    let values = |value| Values::new(value).map(decode).collect::<Vec<_>>();
+
+    assert_eq!(values(b"x%2Cy"), [b"x,y"]);
+    assert_eq!(values(b"x,y"), [b"x", b"y"]);
+    assert_eq!(values(b",a,"), [&b""[..], b"a", b""]);
+}
+
+#[test]
+fn a_lookup_takes_the_first_match() {
+    assert_eq!(Attributes(b"a=;a=2").get(b"a"), Ok(Some(&b""[..])));
+    assert_eq!(Attributes(b"%61=1").get(b"a"), Ok(Some(&b"1"[..])));
+    assert_eq!(Attributes(b"a=1").get(b"%61"), Ok(None));
+    assert_eq!(Attributes(b"a=1;b").get(b"a"), Ok(Some(&b"1"[..])));
+    assert_eq!(Attributes(b".").get(b""), Ok(None));
+}
+
+#[test]
+fn typed_values_are_read_from_left_to_right() {
+    assert_eq!(
+        Version::parse(b"3.1.26"),
+        Ok(Version {
+            major: 3,
+            minor: Some(1),
+            patch: Some(26)
+        })
+    );
+    assert_eq!(Version::parse(b""), Err(Refusal(6)));
+    assert_eq!(Version::parse(b"x.y"), Err(Refusal(7)));
+
+    assert_eq!(
+        Region::parse(b" sq0\t+8 9 10"),
+        Ok(Region {
+            name: b"sq0",
+            start: 8,
+            end: 9
+        })
+    );
+    let refused = [
+        (&b""[..], 6),
+        (b" ", 10),
+        (b"sq0", 11),
+        (b"sq0 x", 12),
+        (b"sq0 8", 13),
+        (b"sq0 8 -9", 14),
+    ];
+    for (text, number) in refused {
+        assert_eq!(Region::parse(text), Err(Refusal(number)));
+    }
+
+    assert_eq!(
+        Build::parse(b" a b c"),
+        Ok(Build {
+            source: b"a",
+            name: b"b"
+        })
+    );
+    assert_eq!(Build::parse(b""), Err(Refusal(6)));
+}
+
+#[test]
+fn what_is_encoded_decodes_to_itself() {
+    let text: Vec<u8> = (0..=255).collect();
+    for set in [Set::Name, Set::Column, Set::Attribute] {
+        assert_eq!(decode(&encode(set, &text).unwrap()), text);
+    }
+    assert_eq!(encode(Set::Name, b"").unwrap(), b"");
+    assert_eq!(encode(Set::Column, &[0; 1_048_576]).unwrap().len(), 3 * 1_048_576);
+    assert_eq!(decode(b"%4"), b"%4");
+    assert_eq!(decode(b"%%41"), b"%A");
+}
+
+#[test]
+fn a_refusal_says_its_reason() {
+    let refusal = position(b"-8").unwrap_err();
+
+    assert_eq!(refusal, Refusal(2));
+    assert_eq!(refusal.to_string(), "not a position (refusal 2)");
+    assert_eq!(Refusal(99).to_string(), "refused (refusal 99)");
+}
