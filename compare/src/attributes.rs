@@ -29,6 +29,15 @@ pub fn every(report: &mut Report, len: usize) {
         texts::every(b"a,%", len, |value| whole_value(report, value));
     }
 
+    // The lookup decodes by itself: every pair of bytes behind a percent sign in a tag.
+    if len == 2 {
+        texts::every(&BYTES, len, |pair| {
+            let column = [b"%", pair, b"=1"].concat();
+            lookup(report, &column, &rust::parse_tag(&column[..3]));
+            lookup(report, &column, &column[..3]);
+        });
+    }
+
     if len <= 2 {
         texts::every(&BYTES, len, |column| {
             report.check(Call::NoAttributes, Case::of(column), no_attributes);
