@@ -1,6 +1,11 @@
 //! Makes a case smaller while its answers still differ.
 
+use std::time::{Duration, Instant};
+
 use crate::case::{Case, Given, Slack};
+
+/// How long a search goes on: a text of a million bytes that has to stay long would take hours.
+const PATIENCE: Duration = Duration::from_secs(10);
 
 /// A case that owns its texts.
 #[derive(Clone)]
@@ -37,11 +42,12 @@ impl Owned {
     }
 }
 
-/// Drops bytes, then takes plainer bytes and smaller numbers, until nothing more can go.
+/// Drops bytes, then takes plainer bytes and smaller numbers, until nothing more can go or the time is over.
 pub fn smallest(case: Case<'_>, differs: impl FnMut(Case<'_>) -> bool) -> Owned {
     let mut search = Search {
         least: Owned::of(case),
         differs,
+        until: Instant::now() + PATIENCE,
     };
 
     while search.dropped(|owned| &mut owned.text)
@@ -56,9 +62,14 @@ pub fn smallest(case: Case<'_>, differs: impl FnMut(Case<'_>) -> bool) -> Owned 
 struct Search<F> {
     least: Owned,
     differs: F,
+    until: Instant,
 }
 
 impl<F: FnMut(Case<'_>) -> bool> Search<F> {
+    fn is_over(&self) -> bool {
+        Instant::now() > self.until
+    }
+
     /// Keeps a candidate if it still differs.
     fn keep(&mut self, candidate: Owned) -> bool {
         let kept = (self.differs)(candidate.case());
@@ -78,7 +89,7 @@ impl<F: FnMut(Case<'_>) -> bool> Search<F> {
         while run > 0 {
             let mut at = 0;
 
-            while at + run <= part(&mut self.least).len() {
+            while at + run <= part(&mut self.least).len() && !self.is_over() {
                 let mut candidate = self.least.clone();
                 part(&mut candidate).drain(at..at + run);
                 let mut moved = candidate.clone();
@@ -99,6 +110,10 @@ impl<F: FnMut(Case<'_>) -> bool> Search<F> {
         let mut any = false;
 
         for at in 0..self.least.text.len() {
+            if self.is_over() {
+                break;
+            }
+
             let mut candidate = self.least.clone();
 
             if candidate.text[at] > b'a' {
