@@ -57,7 +57,7 @@ pub fn every(report: &mut Report, len: usize) {
     }
 }
 
-/// Each column of each length, and each of the eight ends put wrong.
+/// Each column of each length, numbers beside the greatest, and each of the eight ends put wrong.
 pub fn sweep(report: &mut Report) {
     for column in 1..=9 {
         for len in 0..=50 {
@@ -65,6 +65,11 @@ pub fn sweep(report: &mut Report) {
             whole_line(report, &with(column, &vec![b'\t'; len]));
         }
     }
+
+    texts::beside_greatest(|number| {
+        report.check(Call::Start, Case::of(&with(4, number.as_bytes())), start);
+        report.check(Call::End, Case::of(&with(5, number.as_bytes())), end);
+    });
 
     for line in [
         with(9, b"a=1"),
