@@ -15,10 +15,13 @@ use crate::{
 const MARKS: &[u8] = b" \t\n\x0b\x0c\r+-.0123456789a\x80\xc2\xa0\xe2\x80\x83";
 
 pub fn every(report: &mut Report, len: usize) {
-    if len <= 6 {
-        texts::every(b"014+.-a", len, |text| {
-            report.check(Call::Version, Case::of(text), version)
+    if len <= 7 {
+        texts::every(b"014+.-", len, |text| {
+            report.check(Call::Version, Case::of(text), version);
         });
+    }
+
+    if len <= 6 {
         texts::every(b"a10+ -\t", len, |text| {
             report.check(Call::Region, Case::of(text), region);
             report.check(Call::Region, Case::of(&[b"sq0 ", text].concat()), region);
