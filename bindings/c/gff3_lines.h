@@ -1,11 +1,10 @@
-/* GFF3 lines, read with proof.
+/* GFF3 lines, read with proof: crates/exports states what each call answers.
  *
  * Every function takes any bytes and numbers, ends, and keeps nothing: there is no state, and any number of threads may call. A pointer
  * may be null where its length is 0. An output buffer may not overlap a text of the same call.
  *
  * Places are offsets into the text that was handed in: from `start`, before `end`; a text is never copied. A cursor beyond its text
- * counts as at its end. Where `done` or `missing` is 1, or `is`, `has_value` or `found` is 0, every field
- * behind it is 0.
+ * counts as at its end. Where `done` or `missing` is 1, or `is`, `has_value` or `found` is 0, every field behind it is 0.
  *
  * `refused` is 0, or the number of the refusal, and then every other field is 0, but for `length` with 22:
  *

@@ -21,7 +21,7 @@ pub fn lines(text: &[u8]) -> Lines<'_> {
 /// ```
 /// let mut lines = gff3_lines::lines(b"a\nb\n");
 ///
-/// assert_eq!(lines.next().map(|line| line.bytes()), Some(&b"a"[..]));
+/// assert_eq!(lines.next(), Some(gff3_lines::Line(b"a")));
 /// assert_eq!(lines.at(), 2);
 /// assert_eq!(lines.count(), 1);
 /// ```
@@ -44,7 +44,14 @@ impl<'a> Lines<'a> {
         Lines { text, at }
     }
 
-    /// Where the next line begins: one past the last line feed that was read.
+    /// Where the next line begins, or the text's end where none is left.
+    ///
+    /// ```
+    /// let mut lines = gff3_lines::lines(b"a\nb");
+    ///
+    /// assert_eq!(lines.by_ref().count(), 2);
+    /// assert_eq!(lines.at(), 3);
+    /// ```
     pub fn at(&self) -> usize {
         self.at
     }
