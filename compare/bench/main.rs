@@ -1,0 +1,215 @@
+//! Measures the library, called by its C functions, against the Rust's own functions, in one process and on the same text.
+//!
+//!     bench FILE [ROUNDS]
+//!
+//! Three passes over an annotation: splitting its lines; finding the columns of each record line; walking each column 9 to its
+//! end. Lines and columns are cut before the pass that needs them. The two take turns, each time is the least of all rounds,
+//! and both must come to the same counts and sums. No buffer is cleared or filled within a pass.
+
+#[path = "../src/ours.rs"]
+#[expect(dead_code, reason = "the passes call three of the functions")]
+mod ours;
+
+use std::{
+    env, fs,
+    hint::black_box,
+    process::ExitCode,
+    time::{Duration, Instant},
+};
+
+use oracle::io::api::{bench as rust, lines::kind, record};
+
+fn main() -> ExitCode {
+    let words: Vec<String> = env::args().skip(1).collect();
+    let (file, rounds) = match words.as_slice() {
+        [file] => (file, Ok(7)),
+        [file, rounds] => (file, rounds.parse()),
+        _ => return failed("usage: bench FILE [ROUNDS]"),
+    };
+    let Ok(rounds @ 1..) = rounds else {
+        return failed("ROUNDS is a number from 1 up");
+    };
+    let text = match fs::read(file) {
+        Ok(text) => text,
+        Err(error) => return failed(&format!("{file}: {error}")),
+    };
+
+    let lines = records(&text);
+    let columns: Vec<&[u8]> = lines
+        .iter()
+        .filter_map(|line| Some(record::columns(line)?[8]))
+        .collect();
+    println!(
+        "{} bytes, {} record lines, the least of {rounds} rounds",
+        text.len(),
+        lines.len()
+    );
+
+    let passes = [
+        pass("lines", rounds, || split(&text), || rust::lines(&text)),
+        pass("columns", rounds, || index(&lines), || rust::columns(&lines)),
+        pass("attributes", rounds, || walk(&columns), || rust::attributes(&columns)),
+    ];
+
+    println!("{:<12} {:>10} {:>10} {:>10}", "pass", "ours", "Rust", "ours/Rust");
+    let mut all = Pass::named("all three");
+
+    for pass in passes {
+        let pass = match pass {
+            Ok(pass) => pass,
+            Err(what) => return failed(&what),
+        };
+        pass.print();
+        all.ours += pass.ours;
+        all.rust += pass.rust;
+    }
+
+    all.print();
+    ExitCode::SUCCESS
+}
+
+fn failed(what: &str) -> ExitCode {
+    eprintln!("bench: {what}");
+    ExitCode::FAILURE
+}
+
+/// A count and a sum, which show that all the work was done.
+type Sum = (u64, u64);
+
+struct Pass {
+    name: &'static str,
+    ours: Duration,
+    rust: Duration,
+}
+
+impl Pass {
+    fn named(name: &'static str) -> Self {
+        Self {
+            name,
+            ours: Duration::ZERO,
+            rust: Duration::ZERO,
+        }
+    }
+
+    fn print(&self) {
+        let [ours, rust] = [self.ours, self.rust].map(|time| time.as_secs_f64());
+        println!(
+            "{:<12} {:>8.1}ms {:>8.1}ms {:>10.2}",
+            self.name,
+            ours * 1e3,
+            rust * 1e3,
+            ours / rust
+        );
+    }
+}
+
+/// Both sides in turn. Who is first changes from round to round, so that neither always finds the caches warm.
+fn pass(name: &'static str, rounds: usize, ours: impl Fn() -> Sum, rust: impl Fn() -> Sum) -> Result<Pass, String> {
+    let mut least = Pass {
+        name,
+        ours: Duration::MAX,
+        rust: Duration::MAX,
+    };
+
+    for round in 0..rounds {
+        let (our_sum, rust_sum) = if round % 2 == 0 {
+            let our_sum = timed(&mut least.ours, &ours);
+            (our_sum, timed(&mut least.rust, &rust))
+        } else {
+            let rust_sum = timed(&mut least.rust, &rust);
+            (timed(&mut least.ours, &ours), rust_sum)
+        };
+
+        if our_sum != rust_sum {
+            return Err(format!("{name}: ours comes to {our_sum:?}, the Rust to {rust_sum:?}"));
+        }
+    }
+
+    Ok(least)
+}
+
+fn timed(least: &mut Duration, f: impl Fn() -> Sum) -> Sum {
+    let start = Instant::now();
+    let sum = black_box(f());
+    *least = start.elapsed().min(*least);
+    sum
+}
+
+/// The record lines of a text, cut by the library: the passes find out whether the Rust agrees.
+fn records(text: &[u8]) -> Vec<&[u8]> {
+    let mut lines = Vec::new();
+    let mut at = 0;
+
+    loop {
+        let line = ours::next_line(text, at);
+
+        if line.done != 0 {
+            return lines;
+        }
+
+        let part = &text[line.start..line.end];
+
+        if kind(part) == 2 {
+            lines.push(part);
+        }
+
+        at = line.next;
+    }
+}
+
+#[inline(never)]
+fn split(text: &[u8]) -> Sum {
+    let (mut count, mut sum) = (0, 0);
+    let mut at = 0;
+
+    loop {
+        let line = ours::next_line(text, at);
+
+        if line.done != 0 {
+            return (count, sum);
+        }
+
+        count += 1;
+        sum += (line.end - line.start) as u64;
+        at = line.next;
+    }
+}
+
+#[inline(never)]
+fn index(lines: &[&[u8]]) -> Sum {
+    let (mut count, mut sum) = (0, 0);
+
+    for line in lines {
+        let indexed = ours::index(line);
+
+        if indexed.refused == 0 {
+            count += 1;
+            sum += indexed.bounds.ends.iter().map(|&end| end as u64).sum::<u64>();
+        }
+    }
+
+    (count, sum)
+}
+
+#[inline(never)]
+fn walk(columns: &[&[u8]]) -> Sum {
+    let (mut count, mut sum) = (0, 0);
+
+    for column in columns {
+        let mut at = 0;
+
+        loop {
+            let field = ours::next_field(column, at);
+
+            if field.refused | field.done != 0 {
+                break;
+            }
+
+            count += 1;
+            sum += (field.tag_end - field.tag_start + field.value_end - field.value_start) as u64;
+            at = field.next;
+        }
+    }
+
+    (count, sum)
+}

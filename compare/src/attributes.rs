@@ -1,0 +1,350 @@
+//! Column 9: the walk, the values of an attribute, the lookup.
+
+use oracle::io::api::{
+    attributes::{self as rust, Step, Value as Values},
+    coding::percent_decode,
+};
+
+use crate::{
+    case::{Case, Difference, Verdict, same, same_text},
+    desk::Desk,
+    ours::{self, Field, Found, Value},
+    report::{Call, Report},
+    texts::{self, BYTES, Dice},
+};
+
+const MARKS: &[u8] = b"==;;,,%.a6\t";
+
+pub fn every(report: &mut Report, len: usize) {
+    if len <= 7 {
+        texts::every(b"a=;,%.", len, |column| whole_column(report, column));
+        texts::every(b"a=;%61", len, |column| {
+            for tag in [&b"a"[..], b"", b"%61", b"aa", b"a;", b"61"] {
+                lookup(report, column, tag);
+            }
+        });
+    }
+
+    if len <= 8 {
+        texts::every(b"a,%", len, |value| whole_value(report, value));
+    }
+
+    // The lookup decodes by itself: every pair of bytes behind a percent sign in a tag.
+    if len == 2 {
+        texts::every(&BYTES, len, |pair| {
+            let column = [b"%", pair, b"=1"].concat();
+            lookup(report, &column, &rust::parse_tag(&column[..3]));
+            lookup(report, &column, &column[..3]);
+        });
+    }
+
+    if len <= 2 {
+        texts::every(&BYTES, len, |column| {
+            report.check(Call::NoAttributes, Case::of(column), no_attributes);
+            report.check(Call::NextField, Case::of(column), next_field);
+        });
+    }
+}
+
+/// Tags and values of each length, from each cursor.
+pub fn sweep(report: &mut Report) {
+    for tag in (0..=34).chain(46..=50) {
+        for value in (0..=18).chain(30..=34) {
+            let tag = vec![b't'; tag];
+            let value = vec![b'v'; value];
+            let column = [&tag[..], b"=", &value, b";", &tag, b"x=", &value, b";b"].concat();
+            whole_column(report, &column);
+            lookup(report, &column, &tag);
+            lookup(report, &column, &[&tag[..], b"x"].concat());
+            whole_value(report, &[&tag[..], b",", &value].concat());
+        }
+    }
+}
+
+pub fn random(report: &mut Report, dice: &mut Dice) {
+    let len = dice.len();
+    let column = match dice.below(6) {
+        0 => dice.text(len, MARKS),
+        1 => dice.text(len, b"aaaaaaaaaaaaaaaaaaaaaaaaaa=;,%61"),
+        2 => dice.text(len, &BYTES),
+        3 => texts::attributes(dice),
+        _ => {
+            let mut column = texts::attributes(dice);
+            texts::damage(dice, &mut column, MARKS);
+            column
+        }
+    };
+
+    report.check(Call::NextField, Case::of(&column), walk);
+    report.check(Call::NoAttributes, Case::of(&column), no_attributes);
+
+    for _ in 0..6 {
+        report.check(
+            Call::NextField,
+            Case::at(&column, dice.cursor(column.len())),
+            next_field,
+        );
+        let out = u64::from(dice.once_in(6)) * dice.number();
+        let at = dice.cursor(column.len());
+        report.check(
+            Call::NextValue,
+            Case {
+                out,
+                ..Case::at(&column, at)
+            },
+            next_value,
+        );
+    }
+
+    let (fields, _) = rust::walk(&column);
+
+    for (tag, value) in fields.iter().take(12) {
+        report.check(Call::NextValue, Case::of(value), all_values);
+        let decoded = rust::parse_tag(tag);
+        lookup(report, &column, &decoded);
+        lookup(report, &column, tag);
+        let mut other = decoded;
+        texts::damage(dice, &mut other, MARKS);
+        lookup(report, &column, &other);
+    }
+
+    for tag in [&b"ID"[..], b"Parent", b"Note", b"", b"."] {
+        lookup(report, &column, tag);
+    }
+}
+
+fn whole_column(report: &mut Report, column: &[u8]) {
+    for at in (0..=column.len() + 1).chain([usize::MAX]) {
+        report.check(Call::NextField, Case::at(column, at), next_field);
+    }
+
+    report.check(Call::NextField, Case::of(column), walk);
+    report.check(Call::NoAttributes, Case::of(column), no_attributes);
+    let (fields, _) = rust::walk(column);
+
+    for (tag, value) in fields {
+        lookup(report, column, &rust::parse_tag(tag));
+        lookup(report, column, value);
+    }
+}
+
+fn whole_value(report: &mut Report, value: &[u8]) {
+    for at in (0..=value.len() + 1).chain([usize::MAX]) {
+        for out in [0, 1, 2, 1 << 32, u64::MAX] {
+            report.check(
+                Call::NextValue,
+                Case {
+                    out,
+                    ..Case::at(value, at)
+                },
+                next_value,
+            );
+        }
+    }
+
+    report.check(Call::NextValue, Case::of(value), all_values);
+}
+
+fn lookup(report: &mut Report, column: &[u8], tag: &[u8]) {
+    report.check(
+        Call::FindTag,
+        Case {
+            tag,
+            ..Case::of(column)
+        },
+        find_tag,
+    );
+}
+
+fn no_attributes(desk: &mut Desk, case: Case<'_>) -> Verdict {
+    same(
+        ours::no_attributes(desk.text(case.text)),
+        u32::from(rust::is_empty(case.text)),
+    )
+}
+
+/// From a cursor, as the Rust steps over what is left from there. A column `.` is none at all, which its own step is not
+/// told.
+fn next_field(desk: &mut Desk, case: Case<'_>) -> Verdict {
+    let len = case.text.len();
+    let at = case.number.min(len);
+    let step = if case.text == b"." {
+        Step::Done
+    } else {
+        rust::step(&case.text[at..])
+    };
+    let lent = desk.text(case.text);
+    let answer = ours::next_field(lent, case.number);
+
+    match step {
+        Step::Done => same(
+            answer,
+            Field {
+                done: 1,
+                ..Field::default()
+            },
+        ),
+        Step::Refused(_) => same(
+            answer,
+            Field {
+                refused: 5,
+                ..Field::default()
+            },
+        ),
+        Step::Field(tag, value, left) => {
+            let value_start = at + tag.len() + 1;
+            let expected = Field {
+                refused: 0,
+                done: 0,
+                tag_start: at,
+                tag_end: at + tag.len(),
+                value_start,
+                value_end: value_start + value.len(),
+                next: value_start + value.len() + 1,
+            };
+            same(answer, expected)?;
+            same(answer.next.min(len), len - left)?;
+            same_text(lent, answer.tag_start, answer.tag_end, tag)?;
+            same_text(lent, answer.value_start, answer.value_end, value)
+        }
+    }
+}
+
+/// From the start, by the library's own cursors, and after a refusal once more.
+fn walk(desk: &mut Desk, case: Case<'_>) -> Verdict {
+    let (fields, refused) = rust::walk(case.text);
+    let lent = desk.text(case.text);
+    let mut at = 0;
+
+    for (tag, value) in fields {
+        let answer = ours::next_field(lent, at);
+        same((answer.refused, answer.done), (0, 0))?;
+        same_text(lent, answer.tag_start, answer.tag_end, tag)?;
+        same_text(lent, answer.value_start, answer.value_end, value)?;
+        at = answer.next;
+    }
+
+    let expected = match refused {
+        Some(_) => Field {
+            refused: 5,
+            ..Field::default()
+        },
+        None => Field {
+            done: 1,
+            ..Field::default()
+        },
+    };
+
+    if let Some(place) = refused {
+        same(("refused at", at), ("refused at", place))?;
+    }
+
+    same(ours::next_field(lent, at), expected)?;
+    same(ours::next_field(lent, at), expected)
+}
+
+/// From a cursor. The Rust splits a whole text and decodes it at once, so the values from the cursor on are those of the text
+/// that is left.
+fn next_value(desk: &mut Desk, case: Case<'_>) -> Verdict {
+    let answer = ours::next_value(desk.text(case.text), case.number, case.out);
+
+    if case.out != 0 {
+        return same(
+            answer,
+            Value {
+                done: 1,
+                ..Value::default()
+            },
+        );
+    }
+
+    let at = case.number.min(case.text.len());
+    let values = values(rust::parse_value(&case.text[at..]));
+    let raw = case.text[at..].split(|&b| b == b',').next().unwrap_or_default();
+    let expected = Value {
+        done: 0,
+        start: at,
+        end: at + raw.len(),
+        next: at + raw.len() + 1,
+        out: (values.len() == 1).into(),
+    };
+    same(answer, expected)?;
+    same(Some(percent_decode(raw)), values.into_iter().next())
+}
+
+/// From the start, by the library's own cursors.
+fn all_values(desk: &mut Desk, case: Case<'_>) -> Verdict {
+    let lent = desk.text(case.text);
+    let mut cursor = (0, 0);
+
+    for value in values(rust::parse_value(case.text)) {
+        let answer = ours::next_value(lent, cursor.0, cursor.1);
+        same(answer.done, 0)?;
+        same(lent.get(answer.start..answer.end).map(percent_decode), Some(value))?;
+        cursor = (answer.next, answer.out);
+    }
+
+    same(
+        ours::next_value(lent, cursor.0, cursor.1),
+        Value {
+            done: 1,
+            ..Value::default()
+        },
+    )
+}
+
+fn values(value: Values) -> Vec<Vec<u8>> {
+    match value {
+        Values::String(one) => vec![one],
+        Values::Array(all) => all,
+    }
+}
+
+/// The place is that of the first field whose tag the Rust decodes to this one; the Rust's own lookup tells the value there.
+fn find_tag(desk: &mut Desk, case: Case<'_>) -> Verdict {
+    let (fields, refused) = rust::walk(case.text);
+    let met = fields.iter().find(|(tag, _)| rust::parse_tag(tag) == case.tag);
+    let (lent, tag) = desk.text_and_tag(case);
+    let answer = ours::find_tag(lent, tag);
+
+    let expected = match (met, refused) {
+        (Some((_, value)), _) => {
+            let start = value.as_ptr() as usize - case.text.as_ptr() as usize;
+            Found {
+                refused: 0,
+                found: 1,
+                start,
+                end: start + value.len(),
+            }
+        }
+        (None, Some(_)) => Found {
+            refused: 5,
+            ..Found::default()
+        },
+        (None, None) => Found::default(),
+    };
+    same(answer, expected)?;
+
+    match (rust::get(case.text, case.tag), answer) {
+        (
+            None,
+            Found {
+                refused: 0, found: 0, ..
+            },
+        )
+        | (Some(Err(5)), Found { refused: 5, .. }) => Ok(()),
+        (
+            Some(Ok(value)),
+            Found {
+                refused: 0,
+                found: 1,
+                start,
+                end,
+            },
+        ) => same(lent.get(start..end).map(rust::parse_value), Some(value)),
+        (theirs, ours) => Err(Difference {
+            ours: format!("{ours:?}"),
+            expected: format!("{theirs:?}"),
+        }),
+    }
+}

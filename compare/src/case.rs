@@ -1,0 +1,149 @@
+//! A case: what a call is given, and where its answer is not the one expected.
+
+use std::fmt::{self, Debug, Write};
+
+/// The bounds that a reader is given.
+#[derive(Clone, Copy, Debug, Default, Eq, PartialEq)]
+pub enum Given {
+    /// The line's own, or zeros where it has none.
+    #[default]
+    Own,
+    These([usize; 8]),
+}
+
+/// The bytes of room that a writer is given, against those it needs.
+#[derive(Clone, Copy, Debug, Default, Eq, PartialEq)]
+pub enum Slack {
+    #[default]
+    Full,
+    /// So many more.
+    Over(usize),
+    /// So many fewer, or none if it needs no more.
+    Short(usize),
+    None,
+}
+
+impl Slack {
+    pub const ALL: [Self; 5] = [Self::Full, Self::Over(1), Self::Over(20), Self::Short(1), Self::None];
+
+    pub fn room(self, need: usize) -> usize {
+        match self {
+            Self::Full => need,
+            Self::Over(n) => need + n,
+            Self::Short(n) => need.saturating_sub(n),
+            Self::None => 0,
+        }
+    }
+}
+
+/// What a call is given. A call leaves out what it has no use for.
+#[derive(Clone, Copy, Debug, Default)]
+pub struct Case<'a> {
+    /// The text, line, column or value.
+    pub text: &'a [u8],
+    /// The tag that is looked up.
+    pub tag: &'a [u8],
+    /// The cursor, the column, or the set.
+    pub number: usize,
+    /// Whether the last value is out.
+    pub out: u64,
+    pub bounds: Given,
+    pub slack: Slack,
+}
+
+impl<'a> Case<'a> {
+    pub fn of(text: &'a [u8]) -> Self {
+        Self {
+            text,
+            ..Self::default()
+        }
+    }
+
+    pub fn at(text: &'a [u8], number: usize) -> Self {
+        Self {
+            text,
+            number,
+            ..Self::default()
+        }
+    }
+}
+
+impl fmt::Display for Case<'_> {
+    fn fmt(&self, f: &mut fmt::Formatter<'_>) -> fmt::Result {
+        show(f, "text", self.text)?;
+
+        if !self.tag.is_empty() {
+            show(f, "tag", self.tag)?;
+        }
+
+        if self.number != 0 {
+            writeln!(f, "  number   {} (the cursor, the column or the set)", self.number)?;
+        }
+
+        if self.out != 0 {
+            writeln!(f, "  out      {}", self.out)?;
+        }
+
+        if self.bounds != Given::Own {
+            writeln!(f, "  bounds   {:?}", self.bounds)?;
+        }
+
+        if self.slack != Slack::Full {
+            writeln!(f, "  room     {:?}, against what is needed", self.slack)?;
+        }
+
+        Ok(())
+    }
+}
+
+/// A text as hex and with escapes, cut where it is too long to be read.
+fn show(f: &mut fmt::Formatter<'_>, name: &str, text: &[u8]) -> fmt::Result {
+    const SHOWN: usize = 2000;
+
+    let (part, cut) = match text.get(..SHOWN) {
+        Some(part) => (part, " .."),
+        None => (text, ""),
+    };
+
+    let hex = part.iter().fold(String::new(), |mut s, b| {
+        write!(s, "{b:02x}").expect("a string takes any text");
+        s
+    });
+
+    writeln!(f, "  {name:<8} {} bytes: {hex}{cut}", text.len())?;
+    writeln!(f, "           \"{}\"{cut}", part.escape_ascii())
+}
+
+/// Two answers that are not the same.
+pub struct Difference {
+    pub ours: String,
+    pub expected: String,
+}
+
+pub type Verdict = Result<(), Difference>;
+
+/// Compares an answer of the library with the one expected.
+pub fn same<T: Debug + PartialEq>(ours: T, expected: T) -> Verdict {
+    if ours == expected {
+        return Ok(());
+    }
+
+    Err(Difference {
+        ours: format!("{ours:?}"),
+        expected: format!("{expected:?}"),
+    })
+}
+
+/// Compares the text at a place of the library with the one expected.
+pub fn same_text(text: &[u8], start: usize, end: usize, expected: &[u8]) -> Verdict {
+    let found = text.get(start..end);
+
+    if found == Some(expected) {
+        return Ok(());
+    }
+
+    Err(Difference {
+        ours: format!("at {start}..{end}: {:?}", found.map(|s| s.escape_ascii().to_string())),
+        expected: format!("{:?}", expected.escape_ascii().to_string()),
+    })
+}

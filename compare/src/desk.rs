@@ -1,0 +1,127 @@
+//! The memory that calls are lent, anew for each.
+
+use crate::{
+    case::{Case, Difference, Slack, Verdict, same},
+    fence::{Room, Side, Texts},
+    ours::{self, Written},
+};
+
+/// Longer than any text here, and than any output.
+const LONGEST: usize = 4 << 20;
+
+/// Texts shorter than this stand right before the output buffer now and then.
+const BESIDE: usize = 4096;
+
+/// What the turns advance by, the golden ratio's share of 64 bits, so that the ways come in no short rhythm and each of them
+/// meets each case that a loop makes.
+const STRIDE: u64 = 0x9e37_79b9_7f4a_7c15;
+
+pub struct Desk {
+    texts: Texts,
+    tags: Texts,
+    room: Room,
+    turn: u64,
+    way: u64,
+}
+
+impl Desk {
+    /// The ways that memory is lent: on one side of the fences or the other, an output buffer right behind its text or far
+    /// away, and no bytes by a null pointer or another.
+    pub const WAYS: u64 = 8;
+
+    pub fn new() -> Self {
+        Self {
+            texts: Texts::new(LONGEST),
+            tags: Texts::new(LONGEST),
+            room: Room::new(LONGEST),
+            turn: 0,
+            way: 0,
+        }
+    }
+
+    /// Goes on to another way.
+    pub fn turn(&mut self) {
+        self.turn = self.turn.wrapping_add(STRIDE);
+        self.take(self.turn / (u64::MAX / Self::WAYS + 1));
+    }
+
+    pub fn take(&mut self, way: u64) {
+        self.way = way;
+        ours::set_empty_is_null(way.is_multiple_of(2));
+    }
+
+    fn side(&self) -> Side {
+        if self.way < 2 { Side::First } else { Side::Last }
+    }
+
+    fn is_behind(&self) -> bool {
+        self.way == 2
+    }
+
+    pub fn text(&mut self, text: &[u8]) -> &[u8] {
+        let side = self.side();
+        self.texts.lend(text, side)
+    }
+
+    pub fn text_and_tag(&mut self, case: Case<'_>) -> (&[u8], &[u8]) {
+        let side = self.side();
+        (self.texts.lend(case.text, side), self.tags.lend(case.tag, side))
+    }
+
+    /// Compares a writer's answer, and what it left in and beside its buffer, with the text expected or a refusal that comes
+    /// before it.
+    pub fn writes(
+        &mut self,
+        case: Case<'_>,
+        expected: Result<&[u8], u64>,
+        write: impl Fn(&[u8], &mut [u8]) -> Written,
+    ) -> Verdict {
+        let need = expected.map_or(0, <[u8]>::len);
+        let room = case.slack.room(need);
+        let answer = match expected {
+            Err(refused) => Written { refused, length: 0 },
+            Ok(_) if room < need => Written {
+                refused: 22,
+                length: need,
+            },
+            Ok(_) => Written {
+                refused: 0,
+                length: need,
+            },
+        };
+        let laid = if answer.refused == 0 {
+            expected.unwrap_or_default()
+        } else {
+            b""
+        };
+
+        let side = self.side();
+        let (text, out) = if self.is_behind() && case.text.len() < BESIDE {
+            self.room.lend_behind(case.text, room)
+        } else {
+            (self.texts.lend(case.text, side), self.room.lend(room, side))
+        };
+        same(write(text, out), answer)?;
+
+        if self.room.has(laid) {
+            return Ok(());
+        }
+
+        let left = self.room.left().map(|left| left.escape_ascii().to_string());
+        Err(Difference {
+            ours: left.map_or("a byte beside the buffer was changed".to_owned(), |left| {
+                format!("left \"{left}\"")
+            }),
+            expected: format!(
+                "\"{}\", and the {} bytes behind it kept",
+                laid.escape_ascii(),
+                room - laid.len()
+            ),
+        })
+    }
+}
+
+/// The rooms that a text is written into: all of them for a short one, or some.
+pub fn rooms(len: usize) -> &'static [Slack] {
+    if len < 300 { &Slack::ALL } else { &Slack::ALL[..4] }
+}

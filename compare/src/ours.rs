@@ -1,0 +1,154 @@
+//! The library's C functions, as bindings/c/gff3_lines.h declares them, behind functions on slices.
+//!
+//! Nothing checks these declarations against the header, so they stand in its order and with its names.
+
+use std::{
+    ptr,
+    sync::atomic::{AtomicBool, Ordering},
+};
+
+/// Whether a slice without bytes goes over as a null pointer: the header allows both forms.
+static EMPTY_IS_NULL: AtomicBool = AtomicBool::new(false);
+
+pub fn set_empty_is_null(null: bool) {
+    EMPTY_IS_NULL.store(null, Ordering::Relaxed);
+}
+
+macro_rules! structs {
+    ($($name:ident { $($field:ident: $t:ty),* })*) => {$(
+        #[repr(C)]
+        #[derive(Clone, Copy, Debug, Default, Eq, PartialEq)]
+        pub struct $name {
+            $(pub $field: $t),*
+        }
+    )*};
+}
+
+structs! {
+    Line { done: u64, start: usize, end: usize, next: usize }
+    CommentText { is: u64, start: usize, end: usize }
+    DirectiveText {
+        is: u64,
+        key_start: usize,
+        key_end: usize,
+        has_value: u64,
+        value_start: usize,
+        value_end: usize
+    }
+    Bounds { ends: [usize; 8] }
+    Indexed { refused: u64, bounds: Bounds }
+    Place { refused: u64, start: usize, end: usize }
+    Number { refused: u64, value: u64 }
+    ScoreText { refused: u64, missing: u64, start: usize, end: usize }
+    Written { refused: u64, length: usize }
+    Field {
+        refused: u64,
+        done: u64,
+        tag_start: usize,
+        tag_end: usize,
+        value_start: usize,
+        value_end: usize,
+        next: usize
+    }
+    Value { done: u64, start: usize, end: usize, next: usize, out: u64 }
+    Found { refused: u64, found: u64, start: usize, end: usize }
+    VersionValue { refused: u64, parts: u64, major: u64, minor: u64, patch: u64 }
+    RegionValue { refused: u64, name_start: usize, name_end: usize, start: u64, end: u64 }
+    BuildValue { refused: u64, source_start: usize, source_end: usize, name_start: usize, name_end: usize }
+}
+
+unsafe extern "C" {
+    fn gff3_next_line(text: *const u8, text_len: usize, at: usize) -> Line;
+    fn gff3_kind(line: *const u8, line_len: usize) -> u32;
+    fn gff3_comment(line: *const u8, line_len: usize) -> CommentText;
+    fn gff3_directive(line: *const u8, line_len: usize) -> DirectiveText;
+    fn gff3_index(line: *const u8, line_len: usize) -> Indexed;
+    fn gff3_column(line: *const u8, line_len: usize, bounds: Bounds, column: u32) -> Place;
+    fn gff3_start(line: *const u8, line_len: usize, bounds: Bounds) -> Number;
+    fn gff3_end(line: *const u8, line_len: usize, bounds: Bounds) -> Number;
+    fn gff3_strand(line: *const u8, line_len: usize, bounds: Bounds) -> Number;
+    fn gff3_phase(line: *const u8, line_len: usize, bounds: Bounds) -> Number;
+    fn gff3_score(line: *const u8, line_len: usize, bounds: Bounds) -> ScoreText;
+    fn gff3_text(
+        line: *const u8,
+        line_len: usize,
+        bounds: Bounds,
+        column: u32,
+        out: *mut u8,
+        out_len: usize,
+    ) -> Written;
+    fn gff3_next_field(column: *const u8, column_len: usize, at: usize) -> Field;
+    fn gff3_next_value(value: *const u8, value_len: usize, at: usize, out: u64) -> Value;
+    fn gff3_find_tag(column: *const u8, column_len: usize, tag: *const u8, tag_len: usize) -> Found;
+    fn gff3_no_attributes(column: *const u8, column_len: usize) -> u32;
+    fn gff3_version(text: *const u8, text_len: usize) -> VersionValue;
+    fn gff3_region(text: *const u8, text_len: usize) -> RegionValue;
+    fn gff3_build(text: *const u8, text_len: usize) -> BuildValue;
+    fn gff3_decode(text: *const u8, text_len: usize, out: *mut u8, out_len: usize) -> Written;
+    fn gff3_encode(set: u32, text: *const u8, text_len: usize, out: *mut u8, out_len: usize) -> Written;
+    fn gff3_position(text: *const u8, text_len: usize) -> Number;
+}
+
+/// Makes each function safe: the header asks for nothing but that a pointer has its length of bytes.
+macro_rules! on_texts {
+    ($($name:ident = $c:ident($text:ident $(, $word:ident: $t:ty)*) -> $answer:ty;)*) => {$(
+        #[inline]
+        pub fn $name($text: &[u8] $(, $word: $t)*) -> $answer {
+            unsafe { $c(pointer($text), $text.len() $(, $word)*) }
+        }
+    )*};
+}
+
+on_texts! {
+    next_line = gff3_next_line(text, at: usize) -> Line;
+    kind = gff3_kind(line) -> u32;
+    comment = gff3_comment(line) -> CommentText;
+    directive = gff3_directive(line) -> DirectiveText;
+    index = gff3_index(line) -> Indexed;
+    column = gff3_column(line, bounds: Bounds, column: u32) -> Place;
+    start = gff3_start(line, bounds: Bounds) -> Number;
+    end = gff3_end(line, bounds: Bounds) -> Number;
+    strand = gff3_strand(line, bounds: Bounds) -> Number;
+    phase = gff3_phase(line, bounds: Bounds) -> Number;
+    score = gff3_score(line, bounds: Bounds) -> ScoreText;
+    next_field = gff3_next_field(column, at: usize) -> Field;
+    next_value = gff3_next_value(value, at: usize, out: u64) -> Value;
+    no_attributes = gff3_no_attributes(column) -> u32;
+    version = gff3_version(text) -> VersionValue;
+    region = gff3_region(text) -> RegionValue;
+    build = gff3_build(text) -> BuildValue;
+    position = gff3_position(text) -> Number;
+}
+
+pub fn text(line: &[u8], bounds: Bounds, column: u32, out: &mut [u8]) -> Written {
+    unsafe { gff3_text(pointer(line), line.len(), bounds, column, pointer_mut(out), out.len()) }
+}
+
+pub fn find_tag(column: &[u8], tag: &[u8]) -> Found {
+    unsafe { gff3_find_tag(pointer(column), column.len(), pointer(tag), tag.len()) }
+}
+
+pub fn decode(text: &[u8], out: &mut [u8]) -> Written {
+    unsafe { gff3_decode(pointer(text), text.len(), pointer_mut(out), out.len()) }
+}
+
+pub fn encode(set: u32, text: &[u8], out: &mut [u8]) -> Written {
+    unsafe { gff3_encode(set, pointer(text), text.len(), pointer_mut(out), out.len()) }
+}
+
+#[inline]
+fn pointer(text: &[u8]) -> *const u8 {
+    if text.is_empty() && EMPTY_IS_NULL.load(Ordering::Relaxed) {
+        ptr::null()
+    } else {
+        text.as_ptr()
+    }
+}
+
+fn pointer_mut(out: &mut [u8]) -> *mut u8 {
+    if out.is_empty() && EMPTY_IS_NULL.load(Ordering::Relaxed) {
+        ptr::null_mut()
+    } else {
+        out.as_mut_ptr()
+    }
+}
