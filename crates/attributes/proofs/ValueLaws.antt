@@ -1,11 +1,14 @@
 -- Steps over a value hand out exactly its pieces, in order, and then are done. Assumes nothing.
-use Prim.Native.Nat.{ℕ, zero, suc, _+_, _≤_, _<_}
+use Prim.Native.Nat.{ℕ, zero, suc, _+_, _≤_, _<_, min}
 use native.Mathlib.Omega.{arith}
-use mathlib.Core.Path.{_≡_, refl, sym, ap}
+use native.Mathlib.Nat.{min-eq-left}
+use mathlib.Core.Path.{_≡_, refl, sym, ap, _∙_}
+use mathlib.Core.Logic.{_⊎_, inl, inr}
 use mathlib.Core.Bool.{Bool, true, false, cond}
 use mathlib.Core.List.{List, [], _∷_}
-use lib.ListN.{length, drop}
+use lib.ListN.{length, drop, drop-of-length-le}
 use borrow.Author.Tests.{eqb-false}
+use Rattle.lists.proofs.OrderLaws.{le-or-lt}
 use Rattle.scan.specs.Find.{is, found}
 use Rattle.scan.specs.Part.{textAt}
 use Rattle.scan.specs.declared.place.Place.{Place}
@@ -27,8 +30,8 @@ left s c = cond (c .out) [] (pieces 44 (drop (c .at) s))
 -- the first of them at a place, and the cursor that leaves the others; where the place ends, by the length of its text
 pub record Cuts (s : List ℕ) (c : ValueCursor) (place : Place) (next : ValueCursor) : Type 0 where
   pub first : left s c ≡ textAt place s ∷ left s next
-  pub start : place .start ≡ c .at
-  pub end : c .at ≤ length s → place .end ≡ c .at + length (textAt place s)
+  pub start : place .start ≡ min (c .at) (length s)
+  pub end : place .end ≡ place .start + length (textAt place s)
   pub inside : place .end ≤ length s
   pub behind : next .at ≡ place .end + 1
   pub more : next .out ≡ false → next .at ≤ length s
@@ -38,19 +41,29 @@ abbrev pub Leaves : List ℕ → ValueCursor → NextValue → Type 0
 Leaves s c Done = left s c ≡ []
 Leaves s c (Is place next) = Cuts s c place next
 
+-- a cursor beyond the text leaves what one at its end does
+drop-clipped : (at : ℕ) (s : List ℕ) → drop at s ≡ drop (min at (length s)) s
+drop-clipped at s = go (le-or-lt at (length s))
+  where
+    go : (at ≤ length s) ⊎ (length s < at) → drop at s ≡ drop (min at (length s)) s
+    go (inl h) = rw (min-eq-left h)
+    go (inr h) = drop-of-length-le s {i = at} (omega arith) ∙ sym (drop-of-length-le s {i = min at (length s)} (omega arith))
+
 pub value-leaves : (s : List ℕ) (c : ValueCursor) → Leaves s c (nextValueOf s c)
 unfolding nextValueOf
 value-leaves s c = go (c .out) refl
   where
-    go : (t : Bool) → c .out ≡ t → Leaves s c (cond t Done (valueTo s (c .at) (found 44 (c .at) s)))
+    go : (t : Bool) → c .out ≡ t
+        → Leaves s c (cond t Done (valueTo s (min (c .at) (length s)) (found 44 (min (c .at) (length s)) s)))
     go true e = rw e
     go false e =
-        let k = found 44 (c .at) s in
-        let within : k ≤ length s = seek-le (is 44) (c .at) s in
+        let at = min (c .at) (length s) in
+        let k = found 44 at s in
+        let within : k ≤ length s = seek-le (is 44) at s in
         record {
-          first = rw e (pieces-next 44 (c .at) s);
+          first = rw (e, drop-clipped (c .at) s) (pieces-next 44 at s);
           start = refl;
-          end = λ h. omega (arith, length-part (c .at) k s within, seek-ge (is 44) (c .at) s h);
+          end = omega (arith, length-part at k s within, seek-ge (is 44) at s (omega arith));
           inside = within;
           behind = refl;
           more = λ p. omega (arith, eqb-false k (length s) p);

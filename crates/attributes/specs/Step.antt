@@ -1,6 +1,6 @@
 -- A step of the walk over column 9 and one over a value, as functions of the text and the cursor alone; and steps in a row.
 -- Assumes nothing: these are definitions.
-use Prim.Native.Nat.{ℕ, zero, suc, _+_}
+use Prim.Native.Nat.{ℕ, zero, suc, _+_, min}
 use mathlib.Core.Bool.{Bool, true, false, cond}
 use mathlib.Core.List.{List, [], _∷_}
 use lib.Dec.{eqb, leb}
@@ -50,9 +50,10 @@ steps (suc n) s at = stepped (stepOf s at) (λ field. then (textAt (field .tag) 
 abbrev pub valueTo : List ℕ → ℕ → ℕ → NextValue
 valueTo s at e = next.Is (record { start = at; end = e }) (record { at = e + 1; out = eqb e (length s) })
 
--- a cursor at or past the end that says "last not out" gives one empty value; one that says "last out" is done whatever its offset
+-- a cursor beyond the text counts as at its end. One that says "last not out" gives one empty value there; one that says "last out" is done
+-- whatever its offset
 unfoldable pub nextValueOf : List ℕ → ValueCursor → NextValue
-nextValueOf s c = cond (c .out) next.Done (valueTo s (c .at) (found 44 (c .at) s))
+nextValueOf s c = let at = min (c .at) (length s) in cond (c .out) next.Done (valueTo s at (found 44 at s))
 
 -- what comes of a step over the values
 abbrev pub handed : NextValue → (Place → ValueCursor → List (List ℕ)) → List (List ℕ)

@@ -32,7 +32,7 @@ pub fn next_value(value: &[u8], cursor: ValueCursor) -> NextValue
     if cursor.out {
         return NextValue::Done;
     }
-    let at = cursor.at;
+    let at = buffer::least(cursor.at, value.len());
     let end = scan::find(value, at, b',');
     let place = Place { start: at, end };
     let next = ValueCursor {

@@ -10,7 +10,7 @@ returns c = rw (c .if1 .taken)
 
 returns-2 : tie.Need-returns-2
 unfolding nextValueOf
-returns-2 c = rw (c .before .if1 .left, ← c .find .ensures .0)
+returns-2 c = rw (c .before .before .if1 .left, ← c .before .least .ensures, ← c .find .ensures .0)
 
 pub next-value-spec : {M : Type 1} → statement M
-next-value-spec = tie.close (tie.spec returns (λ c κs. tt) (λ c. search needs) returns-2)
+next-value-spec = tie.close (tie.spec returns (λ c κs. tt) (λ c κs. tt) (λ c. search needs) returns-2)
