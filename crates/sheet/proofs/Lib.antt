@@ -3,3 +3,4 @@ pub mod LengthLaws
 pub mod PastLaws
 pub mod SheetLaws
 mod Samples
+mod Unique
