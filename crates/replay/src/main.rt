@@ -1,5 +1,5 @@
 // Replays a list of cases and writes an answer for each, a line a case: `stdin` has the cases, and `stdout` what they should give, taken
-// from outside (the Rust's answers, and the worked examples of the documents). tests/vectors/README.md says how the list is made.
+// from outside (the Rust's answers, and the worked examples of the documents). tools/make-vectors makes the list.
 //
 // A case is a letter and its words: numbers in decimal, texts in hex, `-` for the empty text. A buffer that a call writes is filled with
 // 0xAA first and shown whole, so that the bytes that are not to be touched are seen.
