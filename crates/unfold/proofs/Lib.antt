@@ -1,2 +1,5 @@
+pub mod AttributesLaws
+pub mod MeasureLaws
 pub mod TextsLaws
+pub mod UnfoldLaws
 pub mod ValuesLaws

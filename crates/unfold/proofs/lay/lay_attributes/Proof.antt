@@ -1,77 +1,65 @@
+-- `lay_attributes`: what is left to lay are the attributes that the walk meets from the cursor on. Assumes nothing.
+use Prim.Native.Nat.{_+_, _-_, _≤_}
+use native.Mathlib.Omega.{arith}
+use borrow.Author.Needs.{needs}
+use mathlib.Core.Path.{_≡_, sym, _∙_}
+use mathlib.Core.Bool.{false, true≢false}
+use lib.ListN.{length}
+use Rattle.buffer.proofs.LaidLaws.{Left, left-start, lays-rest, lays-length, none-left}
+use Rattle.attributes.specs.Attributes.{attributes, walk-from, walk}
+use Rattle.attributes.proofs.WalkLaws.{Hands, meets}
+use Rattle.unfold.specs.Unfold.{stuck}
+use Rattle.unfold.proofs.AttributesLaws.{rest, rest-next, rest-done, refused-stuck}
 use Rattle.unfold.proofs.lay.lay_attributes.Statement.{statement}
 use Rattle.unfold.proofs.lay.lay_attributes.Tie as tie
-use Rattle.unfold.proofs.lay.lay_attributes.Reads as reads
-use Rattle.unfold.proofs.lay.lay_attributes.Lts as lts
-use Rattle.attributes.proofs.next_field.Reads as next-field-reads
-use Rattle.buffer.proofs.least.Reads as least-reads
-use Rattle.scan.proofs.text.Reads as text-reads
-use Rattle.unfold.proofs.lay.lay_attribute.Reads as lay-attribute-reads
 
 abbrev Inv-loop : tie.InvT-loop
-Inv-loop column out₀ at to₀ from₀ out to from = ?
+Inv-loop column out₀ at to₀ from₀ out to from =
+    (to ≤ length out)
+    × (stuck (attributes (walk-from column from)) ≡ false)
+    × Left (rest (walk column)) out₀ at (rest (walk-from column from)) out to
 
 abbrev μ-loop : tie.MeasureT-loop
-μ-loop column out₀ at to₀ from₀ out to from = ?
+μ-loop column out₀ at to₀ from₀ out to from = length column + 1 - from
 
--- src/lay.rt:72:9
-least-requires : tie.Need-least-requires Inv-loop μ-loop
-least-requires c κs = ?
-
--- src/lay.rt:74:5
 loop-holds : tie.Need-loop-holds Inv-loop μ-loop
-loop-holds c = ?
+loop-holds c =
+    let s = c .before .before .before in
+    let a = s .args in (
+      omega arith,
+      s .pre,
+      rw (c .least .ensures) (left-start (rest (walk (a .column .now))) (a .out .now) (a .at)),
+    )
 
--- src/lay.rt:75:15
-next-field-requires : tie.Need-next-field-requires Inv-loop μ-loop
-next-field-requires c κs = ?
+-- the attribute that the step hands out
+hands : (c : tie.After-field Inv-loop μ-loop)
+    → Hands (c .before .before .before .before .before .before .before .args .column .now) (c .before .before .before .loop .from) (c .field .given .0 .0)
+hands c = meets _ _ (c .before .before .next-field .ensures) (c .field .given .1)
 
--- src/lay.rt:76:22
-enum-known-field : tie.Need-enum-known-field Inv-loop μ-loop
-enum-known-field c = ?
-
--- src/lay.rt:79:36
-text-requires : tie.Need-text-requires Inv-loop μ-loop
-text-requires c κs = ?
-
--- src/lay.rt:79:61
-text-requires-2 : tie.Need-text-requires-2 Inv-loop μ-loop
-text-requires-2 c κs = ?
-
--- src/lay.rt:79:17
-lay-attribute-requires : tie.Need-lay-attribute-requires Inv-loop μ-loop
-lay-attribute-requires c κs = ?
-
--- src/lay.rt:74:5
-loop-less : tie.Need-loop-less Inv-loop μ-loop
-loop-less c = ?
-
--- src/lay.rt:74:5
 loop-again : tie.Need-loop-again Inv-loop μ-loop
-loop-again c = ?
+loop-again c =
+    let laid = c .before .before in
+    let second = laid .before .before in
+    let f = second .before .before .before .before .before in
+    let l = f .before .before .before .loop in
+    let more = rest-next (hands f) (l .inv .1) in
+    let k = rw (second .before .text .ensures, second .text2 .ensures) at (laid .lay-attribute .ensures) in
+    (omega (arith, lays-length k, k .end), more .0, lays-rest (rw (more .1) at (l .inv .2)) k)
 
--- src/lay.rt:82:27
-enum-told : tie.Need-enum-told Inv-loop μ-loop
-enum-told c = ?
+loop-less : tie.Need-loop-less Inv-loop μ-loop
+loop-less c = let h = hands (c .before .before .before .before .before .before .before .before .before) in omega arith
 
--- src/lay.rt:82:27
-same-length : tie.Need-same-length Inv-loop μ-loop
-same-length c = ?
-
--- src/lay.rt:82:27
 returns : tie.Need-returns Inv-loop μ-loop
-returns c = ?
+returns c =
+    let d = c .before .before in
+    let l = d .before .loop in
+    none-left (l .inv .0) (rw (meets _ _ (d .next-field .ensures) (c .enum-told .given .1), rest-done) at (l .inv .2))
 
--- src/lay.rt:83:30
-enum-told-2 : tie.Need-enum-told-2 Inv-loop μ-loop
-enum-told-2 c = ?
-
--- src/lay.rt:83:30
-same-length-2 : tie.Need-same-length-2 Inv-loop μ-loop
-same-length-2 c = ?
-
--- src/lay.rt:83:30
-returns-2 : tie.Need-returns-2 Inv-loop μ-loop
-returns-2 c = ?
+-- the walk is not refused
+never : (c : tie.After-enum-told2 Inv-loop μ-loop) → ⊥
+never c =
+    let d = c .before .before in
+    true≢false (sym refused-stuck ∙ (rw (meets _ _ (d .next-field .ensures) (c .enum-told2 .given .1)) at (d .before .loop .inv .1)))
 
 pub lay-attributes-spec : {M : Type 1} → statement M
 lay-attributes-spec =
@@ -79,18 +67,18 @@ lay-attributes-spec =
     (tie.spec
     Inv-loop
     μ-loop
-    least-requires
+    (λ c κs. tt)
     loop-holds
-    next-field-requires
-    enum-known-field
-    text-requires
-    text-requires-2
-    lay-attribute-requires
+    (λ c κs. tt)
+    (λ c. search needs)
+    (λ c κs. tt)
+    (λ c κs. tt)
+    (λ c κs. search needs)
     loop-less
     loop-again
-    enum-told
-    same-length
+    (λ c. search needs)
+    (λ c. lays-length (returns c))
     returns
-    enum-told-2
-    same-length-2
-    returns-2)
+    (λ c. search needs)
+    (λ c. absurd (never c))
+    (λ c. absurd (never c)))
