@@ -1,5 +1,5 @@
 -- The attributes of column 9 on the sheet, from a cursor on. Assumes nothing.
-use Prim.Native.Nat.{ℕ, _+_}
+use Prim.Native.Nat.{ℕ, zero, suc, _+_, _-_, _*_, _≤_, _<_}
 use native.Mathlib.Omega.{arith}
 use mathlib.Core.Path.{_≡_, refl, ap₂, _∙_}
 use mathlib.Core.Bool.{true, false, true≢false}
@@ -8,15 +8,20 @@ use mathlib.Core.Option.{Option, none, some}
 use lib.ListN.{length, length-append}
 use Rattle.scan.specs.Part.{textAt}
 use Rattle.attributes.specs.declared.field.Field.{Field}
-use Rattle.attributes.specs.Attributes.{Attribute, Walk, done, refused, then, attribute, attributes, before, walk-from, values}
-use Rattle.attributes.proofs.WalkLaws.{Hands}
+use Rattle.attributes.specs.declared.field.Step.{Step}
+use Rattle.attributes.specs.declared.field.Step.the-variants as step
+use Rattle.attributes.specs.Attributes.{Attribute, Walk, done, refused, then, attribute, attributes, before, walk-from, walk, values}
+use Rattle.attributes.specs.Step.{stepOf}
+use Rattle.attributes.proofs.WalkLaws.{Hands, Meets, step-meets}
 use Rattle.percent.specs.Percent.{decoded}
+use Rattle.percent.proofs.PercentLaws.{length-decoded}
 use Rattle.sheet.specs.Sheet.{section-of, counted-of, attribute-of}
 use Rattle.sheet.proofs.LengthLaws.{length-section}
 use Rattle.unfold.specs.declared.judging.Size.{Size}
 use Rattle.unfold.specs.declared.judging.Size.the-variants.{Is, Refused}
 use Rattle.unfold.specs.Unfold.{got, stuck}
 use Rattle.unfold.specs.Measure.{sized}
+use Rattle.unfold.proofs.ValuesLaws.{values-bound}
 
 -- an attribute is its tag and its values
 pub length-parts : (tag value : List ℕ)
@@ -79,3 +84,33 @@ rest-done = refl
 pub refused-stuck : stuck (attributes refused) ≡ true
 unfolding attributes
 refused-stuck = refl
+
+-- ── bounds ────────────────────────────────────────────────────────────────────────────────────
+
+attribute-few : (tag value : List ℕ) → length (attribute-of (attribute tag value)) ≤ 12 + length tag + 4 * length value
+attribute-few tag value = omega (arith, length-parts tag value, length-decoded tag, values-bound value)
+
+one-few : (a : Attribute) (o : Option (List Attribute))
+    → length (flatMap attribute-of (got (before a o))) ≤ length (attribute-of a) + length (flatMap attribute-of (got o))
+unfolding flatMap
+one-few a none = omega arith
+one-few a (some l) = simp length-append (omega arith)
+
+-- a byte of the column makes at most six of the sheet
+rest-few : (n : ℕ) (s : List ℕ) (at : ℕ) → length s + 1 - at < n → length (rest (walk-from s at)) ≤ 6 * (length s + 1 - at)
+unfolding attributes flatMap
+rest-few zero s at h = absurd (omega arith)
+rest-few (suc n) s at h = go (stepOf s at) (step-meets s at) (λ next l. rest-few n s next (omega arith))
+  where
+    go : (r : Step) → Meets s at r → ((next : ℕ) → length s + 1 - next < length s + 1 - at → length (rest (walk-from s next)) ≤ 6 * (length s + 1 - next))
+        → length (rest (walk-from s at)) ≤ 6 * (length s + 1 - at)
+    go step.Done m more = rw m (omega arith)
+    go step.Refused m more = rw m (omega arith)
+    go (step.Is field) m more =
+        let t = textAt (field .tag) s in
+        let v = textAt (field .value) s in
+        rw (m .met)
+        (omega (arith, one-few (attribute t v) (attributes (walk-from s (field .next))), attribute-few t v, more (field .next) (omega arith)))
+
+pub attributes-few : (column : List ℕ) → length (rest (walk column)) ≤ 6 + 6 * length column
+attributes-few column = omega (arith, rest-few (length column + 2) column 0 (omega arith))

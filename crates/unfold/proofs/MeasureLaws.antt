@@ -1,5 +1,5 @@
 -- What measuring answers, field by field, and what its answer says. Assumes nothing.
-use Prim.Native.Nat.{ℕ, zero, suc, _+_, _<_}
+use Prim.Native.Nat.{ℕ, zero, suc, _+_, _*_, _≤_, _<_}
 use native.Mathlib.Omega.{arith}
 use mathlib.Core.Path.{_≡_, refl, sym}
 use mathlib.Core.Bool.{Bool, true, false, cond}
@@ -10,22 +10,27 @@ use Rattle.lists.specs.Bytes.{Every}
 use Rattle.buffer.specs.Answer.{Reason, first}
 use Rattle.columns.specs.declared.bounds.Bounds.{Bounds}
 use Rattle.columns.specs.declared.bounds.Indexed.the-variants as indexing
+use Rattle.columns.specs.declared.column.Column.{Column}
 use Rattle.columns.specs.declared.column.Column.the-variants as column
 use Rattle.columns.specs.declared.position.PositionRead.the-variants as position
 use Rattle.columns.specs.declared.strand.Strand.{Strand}
 use Rattle.columns.specs.declared.strand.StrandRead.the-variants as strands
 use Rattle.columns.specs.declared.phase.Phase.{Phase}
 use Rattle.columns.specs.declared.phase.PhaseRead.the-variants as phases
-use Rattle.columns.specs.Columns.{ends, isRecord, indexed, columnText}
-use Rattle.columns.specs.Fields.{positionText, strandText, phaseText}
+use Rattle.columns.specs.Columns.{ends, isRecord, indexed, columnPlace, columnText}
+use Rattle.columns.specs.Fields.{isDot, positionText, strandText, phaseText}
+use Rattle.percent.specs.Percent.{decoded}
+use Rattle.percent.proofs.PercentLaws.{length-decoded}
 use Rattle.attributes.specs.Attributes.{Attribute, attributes, walk}
 use Rattle.sheet.specs.Sheet.{attribute-of, sheet-of}
 use Rattle.sheet.proofs.LengthLaws.{length-sheet}
 use Rattle.unfold.specs.declared.judging.Numbers.{Numbers}
 use Rattle.unfold.specs.declared.judging.Measured.the-variants.{Is, Refused}
 use Rattle.unfold.specs.declared.judging.Size.the-variants as size
-use Rattle.unfold.specs.Unfold.{got, unfolded, numbers-of, noScore, stuck, unfold-reasons}
+use Rattle.unfold.specs.Unfold.{scoreOf, got, unfolded, numbers-of, noScore, stuck, unfold-reasons}
 use Rattle.unfold.specs.Measure.{texts-length, sized, field-reasons, measured-by, measured}
+use Rattle.unfold.proofs.TextsLaws.{part-short}
+use Rattle.unfold.proofs.AttributesLaws.{attributes-few}
 
 -- ── the fields, in their order ────────────────────────────────────────────────────────────────
 
@@ -77,6 +82,37 @@ module _ (s : List ℕ) where
                 let z = sized-is (attributes (walk (columnText column.Attributes s))) e in
                 let l : t + 4 + n ≡ length (sheet-of (unfolded s)) = omega (arith, length-sheet (unfolded s)) in
                 rw (start-is, end-is, score-is, strand-is, phase-is, z .0, own, z .1, l, numbers-of, start-is, end-is, strand-is, phase-is)
+
+-- ── how long a sheet is at most ───────────────────────────────────────────────────────────────
+
+module _ (s : List ℕ) where
+  column-short : (c : Column) → length (columnText c s) ≤ length s
+  column-short c = part-short (columnPlace c s .start) (columnPlace c s .end) s
+
+  -- the attributes, ten bytes for each of the line's and the rest of the sheet together
+  pub size-few : {k n : ℕ} → sized (attributes (walk (columnText column.Attributes s))) ≡ size.Is k n → n ≤ 6 + 6 * length s
+  size-few e =
+      let col = columnText column.Attributes s in
+      omega (arith, sized-is (attributes (walk col)) e .2, attributes-few col, column-short column.Attributes)
+
+  score-short : (token : List ℕ) → length (scoreOf token) ≤ length token
+  unfolding scoreOf
+  score-short token = go (isDot token)
+    where
+      go : (t : Bool) → length (cond t [] token) ≤ length token
+      go true = omega arith
+      go false = omega arith
+
+  pub sheet-few : length (sheet-of (unfolded s)) ≤ 26 + 10 * length s
+  unfolding unfolded
+  sheet-few =
+      let name = columnText column.ReferenceSequenceName s in
+      let source = columnText column.Source s in
+      let type = columnText column.Ty s in
+      let score = columnText column.Score s in
+      let col = columnText column.Attributes s in
+      omega (arith, length-sheet (unfolded s), length-decoded name, length-decoded source, length-decoded type, score-short score, attributes-few col,
+          column-short column.ReferenceSequenceName, column-short column.Source, column-short column.Ty, column-short column.Score, column-short column.Attributes)
 
 -- ── the line's bounds ─────────────────────────────────────────────────────────────────────────
 

@@ -1,4 +1,5 @@
 -- `fields`: each column is the line's own, and what it answers is what the definition says of it. Assumes nothing.
+use Prim.Native.Nat.{_+_, _*_, _≤_}
 use native.Mathlib.Omega.{arith}
 use borrow.Author.Needs.{needs}
 use mathlib.Core.Path.{_≡_, sym, ap₂, _∙_}
@@ -14,7 +15,7 @@ use Rattle.attributes.specs.Attributes.{attributes, walk}
 use Rattle.unfold.specs.Unfold.{noScore}
 use Rattle.unfold.specs.Measure.{sized}
 use Rattle.unfold.proofs.TextsLaws.{part-short}
-use Rattle.unfold.proofs.MeasureLaws.{start-refused, end-refused, score-refused, strand-refused, phase-refused, attributes-refused, fields-are}
+use Rattle.unfold.proofs.MeasureLaws.{start-refused, end-refused, score-refused, strand-refused, phase-refused, attributes-refused, fields-are, size-few}
 use Rattle.unfold.proofs.judging.fields.Statement.{statement}
 use Rattle.unfold.proofs.judging.fields.Tie as tie
 
@@ -126,6 +127,15 @@ returns-6 c =
     let e = scored .before .before .before .before .before in
     attributes-refused (from-attributes p .args .line .now) (start-is (e .before .before .before .before .before)) (end-is e) (score-is scored) (strand-is stranded) (phase-is phased) (size p ∙ c .enum-told5 .given .1)
 
+-- the attributes' bytes are few
+short : (c : tie.After-texts-len)
+    → let s = from-attributes (c .before .before .before .before) in
+    (length (s .args .line .now) ≤ 4194304) × (c .before .before .count .given .0 .1 .0 ≤ 6 + 6 * length (s .args .line .now))
+short c =
+    let p = c .before .before .before .before in
+    let s = from-attributes p in
+    (s .pre .1, size-few (s .args .line .now) (size p ∙ c .before .before .count .given .1))
+
 returns-7 : tie.Need-returns-7
 returns-7 c =
     let counted = c .before .before in
@@ -171,6 +181,6 @@ fields-spec =
     (λ c. search needs)
     returns-6
     (λ c κs. from-attributes (c .before .before .before) .pre)
-    ?
-    ?
+    (λ c. omega (arith, short c, c .texts-len .ensures .1))
+    (λ c. omega (arith, short c, c .texts-len .ensures .1))
     returns-7)
