@@ -3,3 +3,5 @@ pub mod MeasureLaws
 pub mod TextsLaws
 pub mod UnfoldLaws
 pub mod ValuesLaws
+mod Samples
+mod Unique

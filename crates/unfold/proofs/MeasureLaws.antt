@@ -111,8 +111,20 @@ module _ (s : List ℕ) where
       let type = columnText column.Ty s in
       let score = columnText column.Score s in
       let col = columnText column.Attributes s in
-      omega (arith, length-sheet (unfolded s), length-decoded name, length-decoded source, length-decoded type, score-short score, attributes-few col,
-          column-short column.ReferenceSequenceName, column-short column.Source, column-short column.Ty, column-short column.Score, column-short column.Attributes)
+      omega (
+        arith,
+        length-sheet (unfolded s),
+        length-decoded name,
+        length-decoded source,
+        length-decoded type,
+        score-short score,
+        attributes-few col,
+        column-short column.ReferenceSequenceName,
+        column-short column.Source,
+        column-short column.Ty,
+        column-short column.Score,
+        column-short column.Attributes,
+      )
 
 -- ── the line's bounds ─────────────────────────────────────────────────────────────────────────
 

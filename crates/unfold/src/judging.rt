@@ -123,28 +123,36 @@ fn fields(line: &[u8], bounds: Bounds) -> Measured
     ensures { λ r. ⌜ r ≡ measured-by (first (field-reasons (now (line .entry)))) (now (line .entry)) ⌝ }
 {
     let b = bounds;
-    let PositionRead::Is(start) =
-        columns::position_of(super::texts::column(line, b.type_end, b.start_end))
-    else {
+    let PositionRead::Is(start) = columns::position_of(super::texts::column(
+        line,
+        b.type_end,
+        b.start_end,
+    )) else {
         return Measured::Refused(2);
     };
-    let PositionRead::Is(end) =
-        columns::position_of(super::texts::column(line, b.start_end, b.end_end))
-    else {
+    let PositionRead::Is(end) = columns::position_of(super::texts::column(
+        line,
+        b.start_end,
+        b.end_end,
+    )) else {
         return Measured::Refused(2);
     };
     let token = super::texts::column(line, b.end_end, b.score_end);
     if !(super::texts::is_dot(token) | columns::is_score(token)) {
         return Measured::Refused(17);
     }
-    let StrandRead::Is(strand) =
-        columns::strand_of(super::texts::column(line, b.score_end, b.strand_end))
-    else {
+    let StrandRead::Is(strand) = columns::strand_of(super::texts::column(
+        line,
+        b.score_end,
+        b.strand_end,
+    )) else {
         return Measured::Refused(3);
     };
-    let PhaseRead::Is(phase) =
-        columns::phase_of(super::texts::column(line, b.strand_end, b.phase_end))
-    else {
+    let PhaseRead::Is(phase) = columns::phase_of(super::texts::column(
+        line,
+        b.strand_end,
+        b.phase_end,
+    )) else {
         return Measured::Refused(4);
     };
     let Size::Is(count, length) = attributes_size(scan::part(line, b.phase_end, line.len())) else {

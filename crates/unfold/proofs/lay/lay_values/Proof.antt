@@ -25,7 +25,7 @@ loop-holds c =
     let a = c .before .before .before .before .args in (
       omega arith,
       rw (coming-start (a .value .now) (c .new .result) (c .new .ensures), c .before .least .ensures)
-      (left-start (flatMap section-of (values (a .value .now))) (a .out .now) (a .at)),
+          (left-start (flatMap section-of (values (a .value .now))) (a .out .now) (a .at)),
     )
 
 -- the value at the cursor
