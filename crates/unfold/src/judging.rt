@@ -106,13 +106,12 @@ fn texts_len(line: &[u8], bounds: Bounds) -> usize
     ensures { λ r. ⌜ (r ≡ texts-length (unfolded (now (line .entry)))) × (r ≤ 16 + 4 * length (now (line .entry))) ⌝ }
 {
     let b = bounds;
-    let name = percent::decoded_len(super::texts::column(line, 0, b.reference_sequence_name_end));
-    let source = percent::decoded_len(super::texts::column(
-        line,
-        b.reference_sequence_name_end,
-        b.source_end,
-    ));
-    let kind = percent::decoded_len(super::texts::column(line, b.source_end, b.type_end));
+    let name_text = super::texts::column(line, 0, b.reference_sequence_name_end);
+    let name = percent::decoded_len(name_text);
+    let source_text = super::texts::column(line, b.reference_sequence_name_end, b.source_end);
+    let source = percent::decoded_len(source_text);
+    let kind_text = super::texts::column(line, b.source_end, b.type_end);
+    let kind = percent::decoded_len(kind_text);
     let score = super::texts::score(super::texts::column(line, b.end_end, b.score_end));
     16 + name + source + kind + score.len()
 }
@@ -123,39 +122,28 @@ fn fields(line: &[u8], bounds: Bounds) -> Measured
     ensures { λ r. ⌜ r ≡ measured-by (first (field-reasons (now (line .entry)))) (now (line .entry)) ⌝ }
 {
     let b = bounds;
-    let PositionRead::Is(start) = columns::position_of(super::texts::column(
-        line,
-        b.type_end,
-        b.start_end,
-    )) else {
+    let start_text = super::texts::column(line, b.type_end, b.start_end);
+    let PositionRead::Is(start) = columns::position_of(start_text) else {
         return Measured::Refused(2);
     };
-    let PositionRead::Is(end) = columns::position_of(super::texts::column(
-        line,
-        b.start_end,
-        b.end_end,
-    )) else {
+    let end_text = super::texts::column(line, b.start_end, b.end_end);
+    let PositionRead::Is(end) = columns::position_of(end_text) else {
         return Measured::Refused(2);
     };
     let token = super::texts::column(line, b.end_end, b.score_end);
     if !(super::texts::is_dot(token) | columns::is_score(token)) {
         return Measured::Refused(17);
     }
-    let StrandRead::Is(strand) = columns::strand_of(super::texts::column(
-        line,
-        b.score_end,
-        b.strand_end,
-    )) else {
+    let strand_text = super::texts::column(line, b.score_end, b.strand_end);
+    let StrandRead::Is(strand) = columns::strand_of(strand_text) else {
         return Measured::Refused(3);
     };
-    let PhaseRead::Is(phase) = columns::phase_of(super::texts::column(
-        line,
-        b.strand_end,
-        b.phase_end,
-    )) else {
+    let phase_text = super::texts::column(line, b.strand_end, b.phase_end);
+    let PhaseRead::Is(phase) = columns::phase_of(phase_text) else {
         return Measured::Refused(4);
     };
-    let Size::Is(count, length) = attributes_size(scan::part(line, b.phase_end, line.len())) else {
+    let rest = scan::part(line, b.phase_end, line.len());
+    let Size::Is(count, length) = attributes_size(rest) else {
         return Measured::Refused(5);
     };
     let numbers = Numbers {
