@@ -1,0 +1,180 @@
+// A line judged: what refuses it, or its numbers and how long its sheet is.
+use attributes::NextValue;
+use attributes::Step;
+use attributes::ValueCursor;
+use columns::Bounds;
+use columns::Indexed;
+use columns::Phase;
+use columns::PhaseRead;
+use columns::PositionRead;
+use columns::Strand;
+use columns::StrandRead;
+ghost use mathlib.Core.Path.{_≡_};
+ghost use Prim.Native.Nat.{_+_, _*_, _≤_};
+ghost use lib.ListN.{length};
+ghost use Rattle.columns.specs.Columns.{ends};
+ghost use Rattle.attributes.specs.Attributes.{values, attribute, attributes, walk};
+ghost use Rattle.sheet.specs.Sheet.{section-of, counted-of, attribute-of};
+ghost use Rattle.buffer.specs.Answer.{first};
+ghost use Rattle.unfold.specs.Unfold.{unfolded, judged};
+ghost use Rattle.unfold.specs.Measure.{texts-length, sized, field-reasons, measured-by, measured};
+
+// The longest line that is unfolded.
+const LONGEST: usize = 4194304;
+
+// What goes beside the sheet.
+pub struct Numbers {
+    pub start: u64,
+    pub end: u64,
+    pub strand: Strand,
+    pub phase: Phase,
+}
+
+pub enum Judged {
+    // The numbers, and the length of the sheet.
+    Is(Numbers, usize),
+    // 24, 1, 2, 17, 3, 4 or 5.
+    Refused(u32),
+}
+
+// What laying the sheet takes besides: the line's bounds, and how many attributes there are.
+pub(crate) enum Measured {
+    Is(Numbers, Bounds, usize, usize),
+    Refused(u32),
+}
+
+// How many attributes there are, and how many bytes of the sheet they take.
+enum Size {
+    Is(usize, usize),
+    // Refusal 5.
+    Refused,
+}
+
+// How long the values of an attribute are on the sheet, with their count.
+fn values_len(value: &[u8]) -> usize
+    requires { ⌜ length (now value) ≤ 4194304 ⌝ }
+    ensures { λ r. ⌜ (r ≡ length (counted-of section-of (values (now (value .entry))))) × (r ≤ 8 + 4 * length (now (value .entry))) ⌝ }
+{
+    let mut n: usize = 4;
+    let mut cursor = ValueCursor::new();
+    loop {
+        match attributes::next_value(value, cursor) {
+            NextValue::Is(place, next) => {
+                n += 4 + percent::decoded_len(scan::text(value, place));
+                cursor = next;
+            }
+            NextValue::Done => return n,
+        }
+    }
+}
+
+// How long an attribute is on the sheet.
+fn attribute_len(tag: &[u8], value: &[u8]) -> usize
+    requires { ⌜ (length (now tag) ≤ 4194304) × (length (now value) ≤ 4194304) ⌝ }
+    ensures { λ r. ⌜ (r ≡ length (attribute-of (attribute (now (tag .entry)) (now (value .entry)))))
+        × (r ≤ 12 + length (now (tag .entry)) + 4 * length (now (value .entry))) ⌝ }
+{
+    4 + percent::decoded_len(tag) + values_len(value)
+}
+
+// The attributes of column 9, measured; refused where text is left without `=`.
+fn attributes_size(column: &[u8]) -> Size
+    requires { ⌜ length (now column) ≤ 4194304 ⌝ }
+    ensures { λ r. ⌜ r ≡ sized (attributes (walk (now (column .entry)))) ⌝ }
+{
+    let mut count: usize = 0;
+    let mut n: usize = 0;
+    let mut at = 0;
+    loop {
+        match attributes::next_field(column, at) {
+            Step::Is(field) => {
+                let tag = field.tag;
+                let value = field.value;
+                n += attribute_len(scan::text(column, tag), scan::text(column, value));
+                count += 1;
+                at = field.next;
+            }
+            Step::Done => return Size::Is(count, n),
+            Step::Refused => return Size::Refused,
+        }
+    }
+}
+
+// How long the first four sections are on the sheet.
+fn texts_len(line: &[u8], bounds: Bounds) -> usize
+    requires { ⌜ (bounds ≡ ends (now line)) × (length (now line) ≤ 4194304) ⌝ }
+    ensures { λ r. ⌜ (r ≡ texts-length (unfolded (now (line .entry)))) × (r ≤ 16 + 4 * length (now (line .entry))) ⌝ }
+{
+    let b = bounds;
+    let name_text = super::texts::column(line, 0, b.reference_sequence_name_end);
+    let name = percent::decoded_len(name_text);
+    let source_text = super::texts::column(line, b.reference_sequence_name_end, b.source_end);
+    let source = percent::decoded_len(source_text);
+    let kind_text = super::texts::column(line, b.source_end, b.type_end);
+    let kind = percent::decoded_len(kind_text);
+    let score = super::texts::score(super::texts::column(line, b.end_end, b.score_end));
+    16 + name + source + kind + score.len()
+}
+
+// The fields of a record whose bounds these are. Refusals, in order: 2 (start, then end), 17, 3, 4, 5.
+fn fields(line: &[u8], bounds: Bounds) -> Measured
+    requires { ⌜ (bounds ≡ ends (now line)) × (length (now line) ≤ 4194304) ⌝ }
+    ensures { λ r. ⌜ r ≡ measured-by (first (field-reasons (now (line .entry)))) (now (line .entry)) ⌝ }
+{
+    let b = bounds;
+    let start_text = super::texts::column(line, b.type_end, b.start_end);
+    let PositionRead::Is(start) = columns::position_of(start_text) else {
+        return Measured::Refused(2);
+    };
+    let end_text = super::texts::column(line, b.start_end, b.end_end);
+    let PositionRead::Is(end) = columns::position_of(end_text) else {
+        return Measured::Refused(2);
+    };
+    let token = super::texts::column(line, b.end_end, b.score_end);
+    if !(super::texts::is_dot(token) | columns::is_score(token)) {
+        return Measured::Refused(17);
+    }
+    let strand_text = super::texts::column(line, b.score_end, b.strand_end);
+    let StrandRead::Is(strand) = columns::strand_of(strand_text) else {
+        return Measured::Refused(3);
+    };
+    let phase_text = super::texts::column(line, b.strand_end, b.phase_end);
+    let PhaseRead::Is(phase) = columns::phase_of(phase_text) else {
+        return Measured::Refused(4);
+    };
+    let rest = scan::part(line, b.phase_end, line.len());
+    let Size::Is(count, length) = attributes_size(rest) else {
+        return Measured::Refused(5);
+    };
+    let numbers = Numbers {
+        start,
+        end,
+        strand,
+        phase,
+    };
+    Measured::Is(numbers, bounds, count, texts_len(line, bounds) + 4 + length)
+}
+
+// The line indexed, once, and its fields measured.
+pub(crate) fn measure(line: &[u8]) -> Measured
+    ensures { λ r. ⌜ r ≡ measured (now (line .entry)) ⌝ }
+{
+    if LONGEST < line.len() {
+        return Measured::Refused(24);
+    }
+    match columns::index(line) {
+        Indexed::At(bounds) => fields(line, bounds),
+        Indexed::Refused => Measured::Refused(1),
+    }
+}
+
+// The numbers of a line and the length of its sheet, without a buffer. Refusals, in order: 24, over 4,194,304 bytes; 1; 2 (start, then
+// end); 17; 3; 4; 5.
+pub fn judge(line: &[u8]) -> Judged
+    ensures { λ r. ⌜ r ≡ judged (now (line .entry)) ⌝ }
+{
+    match measure(line) {
+        Measured::Is(numbers, _, _, length) => Judged::Is(numbers, length),
+        Measured::Refused(n) => Judged::Refused(n),
+    }
+}

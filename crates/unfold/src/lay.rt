@@ -1,0 +1,121 @@
+// The sheet of a line, laid piece by piece over a lent buffer.
+use super::judging::Measured;
+use super::judging::Numbers;
+use attributes::NextValue;
+use attributes::Step;
+use attributes::ValueCursor;
+use columns::Bounds;
+ghost use mathlib.Core.Path.{_≡_};
+ghost use mathlib.Core.Bool.{false};
+ghost use mathlib.Core.List.{flatMap};
+ghost use lib.ListN.{length};
+ghost use Rattle.columns.specs.declared.column.Column.the-variants as column;
+ghost use Rattle.columns.specs.Columns.{ends, columnText};
+ghost use Rattle.attributes.specs.Attributes.{values, attribute, attributes, walk};
+ghost use Rattle.buffer.specs.Laid.{Lays};
+ghost use Rattle.sheet.specs.Sheet.{section-of, attribute-of, sheet-of};
+ghost use Rattle.unfold.specs.Unfold.{stuck, got, unfolded, Unfolds};
+
+pub enum Unfolded {
+    // The sheet stands at the buffer's start: the numbers beside it, and its length.
+    Done(Numbers, usize),
+    // 24, 1, 2, 17, 3, 4 or 5.
+    Refused(u32),
+    // Refusal 22: the sheet is longer than the buffer, and has so many bytes.
+    NoRoom(usize),
+}
+
+fn value_count(value: &[u8]) -> usize
+    ensures { λ r. ⌜ r ≡ length (values (now (value .entry))) ⌝ }
+{
+    let mut n: usize = 0;
+    let mut cursor = ValueCursor::new();
+    loop {
+        match attributes::next_value(value, cursor) {
+            NextValue::Is(_, next) => {
+                n += 1;
+                cursor = next;
+            }
+            NextValue::Done => return n,
+        }
+    }
+}
+
+fn lay_values(value: &[u8], out: &mut [u8], at: usize) -> usize
+    ensures { λ r. ⌜ Lays (flatMap section-of (values (now (value .entry)))) (now (out .entry)) at (now (out .exit)) r ⌝ }
+{
+    let mut to = buffer::least(at, out.len());
+    let mut cursor = ValueCursor::new();
+    loop {
+        match attributes::next_value(value, cursor) {
+            NextValue::Is(place, next) => {
+                to = sheet::lay_decoded_section(scan::text(value, place), out, to);
+                cursor = next;
+            }
+            NextValue::Done => return to,
+        }
+    }
+}
+
+fn lay_attribute(tag: &[u8], value: &[u8], out: &mut [u8], at: usize) -> usize
+    ensures { λ r. ⌜ Lays (attribute-of (attribute (now (tag .entry)) (now (value .entry)))) (now (out .entry)) at (now (out .exit)) r ⌝ }
+{
+    let count = sheet::lay_decoded_section(tag, out, at);
+    let first = sheet::lay_count(value_count(value), out, count);
+    lay_values(value, out, first)
+}
+
+fn lay_attributes(column: &[u8], out: &mut [u8], at: usize) -> usize
+    requires { ⌜ stuck (attributes (walk (now column))) ≡ false ⌝ }
+    ensures { λ r. ⌜ Lays (flatMap attribute-of (got (attributes (walk (now (column .entry)))))) (now (out .entry)) at (now (out .exit)) r ⌝ }
+{
+    let mut to = buffer::least(at, out.len());
+    let mut from = 0;
+    loop {
+        match attributes::next_field(column, from) {
+            Step::Is(field) => {
+                let tag = field.tag;
+                let value = field.value;
+                to = lay_attribute(scan::text(column, tag), scan::text(column, value), out, to);
+                from = field.next;
+            }
+            Step::Done => return to,
+            Step::Refused => return to,
+        }
+    }
+}
+
+// The sections in their order, of a record whose bounds these are and whose attributes are so many.
+fn lay_sheet(line: &[u8], bounds: Bounds, count: usize, out: &mut [u8]) -> usize
+    requires { ⌜ (bounds ≡ ends (now line)) × (count ≡ length (unfolded (now line) .attributes)) × (stuck (attributes (walk (columnText column.Attributes (now line)))) ≡ false) ⌝ }
+    ensures { λ r. ⌜ Lays (sheet-of (unfolded (now (line .entry)))) (now (out .entry)) 0 (now (out .exit)) r ⌝ }
+{
+    let b = bounds;
+    let name = super::texts::column(line, 0, b.reference_sequence_name_end);
+    let source = super::texts::column(line, b.reference_sequence_name_end, b.source_end);
+    let kind = super::texts::column(line, b.source_end, b.type_end);
+    let score = super::texts::score(super::texts::column(line, b.end_end, b.score_end));
+    let mut at = sheet::lay_decoded_section(name, out, 0);
+    at = sheet::lay_decoded_section(source, out, at);
+    at = sheet::lay_decoded_section(kind, out, at);
+    at = sheet::lay_section(score, out, at);
+    at = sheet::lay_count(count, out, at);
+    lay_attributes(scan::part(line, b.phase_end, line.len()), out, at)
+}
+
+// Lays the sheet of a line at the start of a buffer, and answers the numbers beside it. Refusals, in order: 24, over 4,194,304 bytes; 1;
+// 2 (start, then end); 17; 3; 4; 5; 22, with the sheet's length. A refused line changes no byte, and bytes behind the sheet stay.
+pub fn unfold(line: &[u8], out: &mut [u8]) -> Unfolded
+    ensures { λ r. ⌜ Unfolds (now (line .entry)) (now (out .entry)) (now (out .exit)) r ⌝ }
+{
+    match super::judging::measure(line) {
+        Measured::Is(numbers, bounds, count, length) => {
+            if out.len() < length {
+                return Unfolded::NoRoom(length);
+            }
+            lay_sheet(line, bounds, count, out);
+            Unfolded::Done(numbers, length)
+        }
+        Measured::Refused(n) => Unfolded::Refused(n),
+    }
+}
