@@ -1,0 +1,53 @@
+-- Laws of what is asked of texts. Assumes nothing.
+use Prim.Native.Nat.{ℕ, zero, suc, _≤_, _<_}
+use native.Mathlib.Omega.{arith}
+use mathlib.Core.Path.{_≡_, refl, _∙_}
+use mathlib.Core.Logic.{⊎-elim}
+use mathlib.Core.Bool.{Bool, true, false, cond, _||_}
+use mathlib.Core.List.{List, [], _∷_}
+use lib.Dec.{eqb, ltb}
+use lib.ListN.{length}
+use borrow.Author.Tests.{lt-ltb, le-ltb, eqb-false}
+use Rattle.lists.specs.Bytes.{Every, Lacks}
+use Rattle.lists.proofs.OrderLaws.{le-or-lt}
+use Rattle.scan.specs.Find.{index, seek, is}
+use Rattle.scan.specs.Word.{isSpace}
+use Rattle.marks.specs.Judge.{holds, breaks, unfit}
+
+ltb-suc : (a b : ℕ) → ltb (suc a) (suc b) ≡ ltb a b
+ltb-suc a b =
+    ⊎-elim (λ h. rw (le-ltb a b h) (le-ltb (suc a) (suc b) (omega arith))) (λ h. rw (lt-ltb a b h) (lt-ltb (suc a) (suc b) (omega arith)))
+    (le-or-lt b a)
+
+-- a search that ends before the end
+pub holds-seek : (test : ℕ → Bool) (s : List ℕ) → ltb (seek test 0 s) (length s) ≡ holds test s
+unfolding seek index holds
+holds-seek test [] = refl
+holds-seek test (x ∷ s) = go (test x) (holds-seek test s)
+  where
+    go : (t : Bool) → ltb (index test s) (length s) ≡ holds test s
+        → ltb (cond t zero (suc (index test s))) (suc (length s)) ≡ (t || holds test s)
+    go true e = lt-ltb 0 (suc (length s)) (omega arith)
+    go false e = ltb-suc (index test s) (length s) ∙ e
+
+-- both halves of a test that fails
+pub or-left : (a b : Bool) → (a || b) ≡ false → a ≡ false
+or-left false b e = refl
+or-left true b e = e
+
+pub or-right : (a b : Bool) → (a || b) ≡ false → b ≡ false
+or-right false b e = e
+or-right true false e = refl
+or-right true true e = e
+
+-- where none passes, each fails
+pub holds-none : (test : ℕ → Bool) (s : List ℕ) → holds test s ≡ false → Every (λ x. test x ≡ false) s
+unfolding holds
+holds-none test [] e = tt
+holds-none test (x ∷ s) e = (or-left (test x) (holds test s) e, holds-none test s (or-right (test x) (holds test s) e))
+
+-- so a byte that is not held is lacking
+pub holds-lacks : (c : ℕ) (s : List ℕ) → holds (is c) s ≡ false → Lacks c s
+unfolding holds
+holds-lacks c [] e = tt
+holds-lacks c (x ∷ s) e = (eqb-false x c (or-left (eqb x c) (holds (is c) s) e), holds-lacks c s (or-right (eqb x c) (holds (is c) s) e))

@@ -1,0 +1,5 @@
+pub mod JudgeLaws
+pub mod PieceLaws
+pub mod ReasonLaws
+pub mod RoundTrip
+mod Unique

@@ -1,0 +1,210 @@
+-- What the writers accept reads back as it was, and is one line: where no reason holds to refuse it, a comment is read as a comment of the
+-- same text, a directive as one of the same key and value text, and a typed value comes back from its own reader. Assumes nothing.
+use Prim.Native.Nat.{ℕ, _+_, _≤_, _<_}
+use native.Mathlib.Omega.{arith}
+use mathlib.Core.Path.{_≡_, refl, sym, ap, _∙_}
+use mathlib.Core.Logic.{_≢_}
+use mathlib.Core.Bool.{Bool, true, false, not, _&&_, true≢false}
+use mathlib.Core.Option.{Option, none, some}
+use mathlib.Core.List.{List, [], _∷_, _++_, append-nil}
+use lib.Dec.{eqb}
+use lib.ListN.{length, getD}
+use borrow.Author.Tests.{eqb-false}
+use Rattle.lists.specs.Bytes.{Every, Lacks}
+use Rattle.lists.proofs.EveryLaws.{every-append}
+use Rattle.scan.specs.Find.{is}
+use Rattle.scan.specs.Part.{textAt}
+use Rattle.scan.specs.Word.{isSpace}
+use Rattle.numbers.specs.Decimal.{decimal}
+use Rattle.numbers.specs.Number.{isDigit, most32, most64}
+use Rattle.numbers.proofs.DecimalLaws.{decimal-lacks}
+use Rattle.buffer.specs.Answer.{first}
+use Rattle.lines.specs.declared.kind.Kind.the-variants.{Directive, Comment}
+use Rattle.lines.specs.Kind.{kind}
+use Rattle.lines.specs.Lines.{OneLine}
+use Rattle.lines.proofs.KindLaws.{kind-comment, kind-directive, ReadsComment, comment-reads, ReadsDirective, directive-reads, directive-reads-alone}
+use Rattle.directives.specs.declared.gff_version.Part.{Part}
+use Rattle.directives.specs.declared.gff_version.Part.the-variants as part
+use Rattle.directives.specs.declared.sequence_region.RegionRead.the-variants as region
+use Rattle.directives.specs.declared.genome_build.BuildRead.the-variants as build
+use Rattle.directives.specs.GffVersion.{version, versionOf}
+use Rattle.directives.specs.SequenceRegion.{regionOf}
+use Rattle.directives.specs.GenomeBuild.{buildOf}
+use Rattle.directives.proofs.VersionLaws.{version-major, version-minor, version-patch}
+use Rattle.directives.proofs.RegionLaws.{region-reads}
+use Rattle.directives.proofs.BuildLaws.{build-reads}
+use Rattle.marks.specs.declared.directive.Value.{Value}
+use Rattle.marks.specs.declared.directive.Value.the-variants.{None, Text, Version, Region, Build}
+use Rattle.marks.specs.Judge.{holds, breaks, unfit}
+use Rattle.marks.specs.Comment.{hashed, comment-reasons, comment-line}
+use Rattle.marks.specs.Version.{absent, dotted, version-reasons, version-text}
+use Rattle.marks.specs.Region.{region-reasons, region-text}
+use Rattle.marks.specs.GenomeBuild.{build-reasons, build-text}
+use Rattle.marks.specs.Directive.{directive-reasons, tail, directive-line}
+use Rattle.marks.proofs.JudgeLaws.{or-left, or-right, holds-none, holds-lacks}
+use Rattle.marks.proofs.ReasonLaws.{plain, clear, clear-key}
+
+-- ── a comment ─────────────────────────────────────────────────────────────────────────────────
+
+first-byte : (text : List ℕ) → hashed text ≡ false → getD text 0 0 ≢ 35
+unfolding hashed
+first-byte [] e = λ p. omega arith
+first-byte (x ∷ s) e = eqb-false x 35 e
+
+no-return : (s : List ℕ) → breaks s ≡ false → Lacks 13 s
+no-return s e = holds-lacks 13 s (or-left (holds (is 13) s) (holds (is 10) s) e)
+
+no-feed : (s : List ℕ) → breaks s ≡ false → Lacks 10 s
+no-feed s e = holds-lacks 10 s (or-right (holds (is 13) s) (holds (is 10) s) e)
+
+module _ (text : List ℕ) (accepted : first (comment-reasons text) ≡ 0) where
+  pub comment-kind : kind (comment-line text) ≡ Comment
+  comment-kind = kind-comment text (first-byte text (plain text accepted .unhashed))
+
+  pub comment-back : ReadsComment (comment-line text) text
+  comment-back = comment-reads text (first-byte text (plain text accepted .unhashed))
+
+  pub comment-one : OneLine (comment-line text)
+  comment-one =
+      let e = plain text accepted .unbroken in
+      (((λ p. omega arith), no-feed text e), ((λ p. omega arith), no-return text e))
+
+-- ── a directive ───────────────────────────────────────────────────────────────────────────────
+
+-- the value's text, if there is a value
+unfoldable pub value-text : Value → List ℕ → List ℕ → Option (List ℕ)
+value-text None one two = none
+value-text Text one two = some one
+value-text (Version v) one two = some (version-text v)
+value-text (Region start end) one two = some (region-text one start end)
+value-text Build one two = some (build-text one two)
+
+tail-back : (key : List ℕ) (value : Value) (one two : List ℕ) → Every (λ x. isSpace x ≡ false) key
+    → ReadsDirective (directive-line key value one two) key (value-text value one two)
+unfolding tail value-text
+tail-back key None one two h = rw append-nil (directive-reads-alone key h)
+tail-back key Text one two h = directive-reads key h one
+tail-back key (Version v) one two h = directive-reads key h (version-text v)
+tail-back key (Region start end) one two h = directive-reads key h (region-text one start end)
+tail-back key Build one two h = directive-reads key h (build-text one two)
+
+-- a word: white space nowhere, and a byte
+fit-word : (s : List ℕ) → unfit s ≡ false → Every (λ x. isSpace x ≡ false) s × (0 < length s)
+fit-word s e =
+    let n = eqb-false (length s) 0 (or-left (eqb (length s) 0) (holds isSpace s) e) in
+    (holds-none isSpace s (or-right (eqb (length s) 0) (holds isSpace s) e), omega arith)
+
+-- ── a typed value ─────────────────────────────────────────────────────────────────────────────
+
+-- the numbers fit their types: 32 bits in a version, 64 in a region
+abbrev pub Within : Part → Type 0
+Within (part.Is n) = n ≤ most32
+Within part.Absent = Unit {0}
+
+unfoldable pub Sized : Value → Type 0
+Sized None = Unit {0}
+Sized Text = Unit {0}
+Sized (Version v) = (v .major ≤ most32) × Within (v .minor) × Within (v .patch)
+Sized (Region start end) = (start ≤ most64) × (end ≤ most64)
+Sized Build = Unit {0}
+
+-- what the value's own reader makes of its text: the same numbers, and places where the same texts stand
+unfoldable pub Back : Value → List ℕ → List ℕ → Type 0
+Back None one two = Unit {0}
+Back Text one two = Unit {0}
+Back (Version v) one two = versionOf (version-text v) ≡ version (v .major) (v .minor) (v .patch)
+Back (Region start end) name two =
+    (regionOf (region-text name start end) ≡ region.Is (record { name = record { start = 0; end = length name }; start = start; end = end }))
+    × (textAt (record { start = 0; end = length name }) (region-text name start end) ≡ name)
+Back Build source name =
+    (buildOf (build-text source name) ≡ build.Is (record { source = record { start = 0; end = length source }; name = record { start = length source + 1; end = length source + 1 + length name } }))
+    × (textAt (record { start = 0; end = length source }) (build-text source name) ≡ source)
+    × (textAt (record { start = length source + 1; end = length source + 1 + length name }) (build-text source name) ≡ name)
+
+version-back : (major : ℕ) (minor patch : Part) → major ≤ most32 → Within minor → Within patch → (absent minor && not (absent patch)) ≡ false
+    → versionOf (decimal major ++ (dotted minor ++ dotted patch)) ≡ version major minor patch
+unfolding absent dotted
+version-back major part.Absent part.Absent h g k e = rw append-nil (version-major major h)
+version-back major part.Absent (part.Is p) h g k e = absurd (true≢false e)
+version-back major (part.Is m) part.Absent h g k e = rw append-nil (version-minor major h m g)
+version-back major (part.Is m) (part.Is p) h g k e = version-patch major h m g p k
+
+zero-not : (n : ℕ) → eqb n 0 ≡ false → 1 ≤ n
+zero-not n e = let h = eqb-false n 0 e in omega arith
+
+value-back : (key : List ℕ) (value : Value) (one two : List ℕ) → Sized value → first (directive-reasons key value one two) ≡ 0 → Back value one two
+unfolding directive-reasons version-reasons region-reasons build-reasons Sized Back version-text region-text build-text
+value-back key None one two s e = tt
+value-back key Text one two s e = tt
+value-back key (Version v) one two s e = version-back (v .major) (v .minor) (v .patch) (s .0) (s .1) (s .2) (clear _ _ _ _ _ _ e .whole)
+value-back key (Region start end) one two s e =
+    let c = clear _ _ _ _ _ _ e in
+    let w = fit-word one (c .fit) in
+    region-reads one start end (w .0) (w .1) (zero-not start (or-left (eqb start 0) (eqb end 0) (c .some))) (s .0)
+    (zero-not end (or-right (eqb start 0) (eqb end 0) (c .some))) (s .1)
+value-back key Build one two s e =
+    let c = clear _ _ _ _ _ _ e in
+    let a = fit-word one (or-left (unfit one) (unfit two) (c .fit)) in
+    let b = fit-word two (or-right (unfit one) (unfit two) (c .fit)) in
+    build-reads one two (a .0) (a .1) (b .0) (b .1)
+
+-- ── one line ──────────────────────────────────────────────────────────────────────────────────
+
+-- CR and LF at once: white space that no string value holds
+module _ (c : ℕ) (small : c < 32) (white : isSpace c ≡ true) (digit : isDigit c ≡ false) (broken : (s : List ℕ) → breaks s ≡ false → Lacks c s) where
+  inked-lacks : (s : List ℕ) → Every (λ x. isSpace x ≡ false) s → Lacks c s
+  inked-lacks [] h = tt
+  inked-lacks (x ∷ s) h = ((λ p. true≢false (sym white ∙ ap isSpace (sym p) ∙ h .0)), inked-lacks s (h .1))
+
+  both : (a b : List ℕ) → Lacks c a → Lacks c b → Lacks c (a ++ b)
+  both a b = every-append (λ x. x ≢ c) a b
+
+  space : 32 ≢ c
+  space e = omega arith
+
+  dotted-lacks : (p : Part) → Lacks c (dotted p)
+  unfolding dotted
+  dotted-lacks (part.Is n) = ((λ e. omega arith), decimal-lacks c n digit)
+  dotted-lacks part.Absent = tt
+
+  tail-lacks : (key : List ℕ) (value : Value) (one two : List ℕ) → first (directive-reasons key value one two) ≡ 0 → Lacks c (tail value one two)
+  unfolding directive-reasons version-reasons region-reasons build-reasons tail version-text region-text build-text
+  tail-lacks key None one two e = tt
+  tail-lacks key Text one two e = (space, broken one (clear _ _ _ _ _ _ e .fit))
+  tail-lacks key (Version v) one two e = (
+    space,
+    both (decimal (v .major)) (dotted (v .minor) ++ dotted (v .patch)) (decimal-lacks c (v .major) digit)
+        (both (dotted (v .minor)) (dotted (v .patch)) (dotted-lacks (v .minor)) (dotted-lacks (v .patch))),
+  )
+  tail-lacks key (Region start end) one two e = (
+    space,
+    both one (32 ∷ (decimal start ++ 32 ∷ decimal end)) (inked-lacks one (fit-word one (clear _ _ _ _ _ _ e .fit) .0))
+        (space, both (decimal start) (32 ∷ decimal end) (decimal-lacks c start digit) (space, decimal-lacks c end digit)),
+  )
+  tail-lacks key Build one two e =
+      let f = clear _ _ _ _ _ _ e .fit in (
+        space,
+        both one (32 ∷ two) (inked-lacks one (fit-word one (or-left (unfit one) (unfit two) f) .0))
+            (space, inked-lacks two (fit-word two (or-right (unfit one) (unfit two) f) .0)),
+      )
+
+  line-lacks : (key : List ℕ) (value : Value) (one two : List ℕ) → first (directive-reasons key value one two) ≡ 0 → Lacks c (directive-line key value one two)
+  line-lacks key value one two e =
+      ((λ p. omega arith), ((λ p. omega arith), both key (tail value one two) (inked-lacks key (clear-key key value one two e .1)) (tail-lacks key value one two e)))
+
+-- ── the directive as a whole ──────────────────────────────────────────────────────────────────
+
+module _ (key : List ℕ) (value : Value) (one two : List ℕ) (accepted : first (directive-reasons key value one two) ≡ 0) where
+  pub directive-kind : kind (directive-line key value one two) ≡ Directive
+  directive-kind = kind-directive (key ++ tail value one two)
+
+  pub directive-back : ReadsDirective (directive-line key value one two) key (value-text value one two)
+  directive-back = tail-back key value one two (clear-key key value one two accepted .1)
+
+  pub typed-back : Sized value → Back value one two
+  typed-back sized = value-back key value one two sized accepted
+
+  pub directive-one : OneLine (directive-line key value one two)
+  unfolding isSpace
+  directive-one =
+      (line-lacks 10 (omega arith) refl refl no-feed key value one two accepted, line-lacks 13 (omega arith) refl refl no-return key value one two accepted)

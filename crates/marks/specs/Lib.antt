@@ -1,0 +1,6 @@
+pub mod Comment
+pub mod Directive
+pub mod GenomeBuild
+pub mod Judge
+pub mod Region
+pub mod Version
