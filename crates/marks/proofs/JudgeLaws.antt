@@ -1,5 +1,5 @@
 -- Laws of what is asked of texts. Assumes nothing.
-use Prim.Native.Nat.{ℕ, zero, suc, _≤_, _<_}
+use Prim.Native.Nat.{ℕ, zero, suc}
 use native.Mathlib.Omega.{arith}
 use mathlib.Core.Path.{_≡_, refl, _∙_}
 use mathlib.Core.Logic.{⊎-elim}
@@ -11,8 +11,7 @@ use borrow.Author.Tests.{lt-ltb, le-ltb, eqb-false}
 use Rattle.lists.specs.Bytes.{Every, Lacks}
 use Rattle.lists.proofs.OrderLaws.{le-or-lt}
 use Rattle.scan.specs.Find.{index, seek, is}
-use Rattle.scan.specs.Word.{isSpace}
-use Rattle.marks.specs.Judge.{holds, breaks, unfit}
+use Rattle.marks.specs.Judge.{holds}
 
 ltb-suc : (a b : ℕ) → ltb (suc a) (suc b) ≡ ltb a b
 ltb-suc a b =

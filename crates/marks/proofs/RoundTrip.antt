@@ -4,7 +4,7 @@ use Prim.Native.Nat.{ℕ, _+_, _≤_, _<_}
 use native.Mathlib.Omega.{arith}
 use mathlib.Core.Path.{_≡_, refl, sym, ap, _∙_}
 use mathlib.Core.Logic.{_≢_}
-use mathlib.Core.Bool.{Bool, true, false, not, _&&_, true≢false}
+use mathlib.Core.Bool.{true, false, not, _&&_, true≢false}
 use mathlib.Core.Option.{Option, none, some}
 use mathlib.Core.List.{List, [], _∷_, _++_, append-nil}
 use lib.Dec.{eqb}
@@ -124,9 +124,9 @@ Back Build source name =
 version-back : (major : ℕ) (minor patch : Part) → major ≤ most32 → Within minor → Within patch → (absent minor && not (absent patch)) ≡ false
     → versionOf (decimal major ++ (dotted minor ++ dotted patch)) ≡ version major minor patch
 unfolding absent dotted
-version-back major part.Absent part.Absent h g k e = rw append-nil (version-major major h)
+version-back major part.Absent part.Absent h g k e = rw (append-nil (decimal major)) (version-major major h)
 version-back major part.Absent (part.Is p) h g k e = absurd (true≢false e)
-version-back major (part.Is m) part.Absent h g k e = rw append-nil (version-minor major h m g)
+version-back major (part.Is m) part.Absent h g k e = rw (append-nil (decimal m)) (version-minor major h m g)
 version-back major (part.Is m) (part.Is p) h g k e = version-patch major h m g p k
 
 zero-not : (n : ℕ) → eqb n 0 ≡ false → 1 ≤ n

@@ -1,7 +1,7 @@
 -- A directive as it is written, document 01, "Writing" and "Refusal numbers": `##`, key, then a space and the value if there is one.
 -- Assumes nothing: these are definitions.
 use Prim.Native.Nat.{ℕ, _≤_}
-use mathlib.Core.Bool.{Bool, false}
+use mathlib.Core.Bool.{false}
 use mathlib.Core.List.{List, [], _∷_, _++_}
 use lib.ListN.{length}
 use Rattle.buffer.specs.Answer.{Reason}

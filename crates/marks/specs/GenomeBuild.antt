@@ -1,6 +1,6 @@
 -- The value of `genome-build` as it is written: source, name. Assumes nothing: these are definitions.
 use Prim.Native.Nat.{ℕ}
-use mathlib.Core.Bool.{Bool, false, not, _||_}
+use mathlib.Core.Bool.{false, not, _||_}
 use mathlib.Core.List.{List, [], _∷_, _++_}
 use Rattle.buffer.specs.Answer.{Reason}
 use Rattle.percent.specs.Unit.{same}

@@ -1,16 +1,16 @@
 -- The attributes of column 9 on the sheet, from a cursor on. Assumes nothing.
 use Prim.Native.Nat.{ℕ, zero, suc, _+_, _-_, _*_, _≤_, _<_}
 use native.Mathlib.Omega.{arith}
-use mathlib.Core.Path.{_≡_, refl, ap₂, _∙_}
+use mathlib.Core.Path.{_≡_, refl, ap₂}
 use mathlib.Core.Bool.{true, false, true≢false}
-use mathlib.Core.List.{List, [], _∷_, _++_, flatMap}
+use mathlib.Core.List.{List, [], _++_, flatMap}
 use mathlib.Core.Option.{Option, none, some}
 use lib.ListN.{length, length-append}
 use Rattle.scan.specs.Part.{textAt}
 use Rattle.attributes.specs.declared.field.Field.{Field}
 use Rattle.attributes.specs.declared.field.Step.{Step}
 use Rattle.attributes.specs.declared.field.Step.the-variants as step
-use Rattle.attributes.specs.Attributes.{Attribute, Walk, done, refused, then, attribute, attributes, before, walk-from, walk, values}
+use Rattle.attributes.specs.Attributes.{Attribute, Walk, done, refused, attribute, attributes, before, walk-from, walk, values}
 use Rattle.attributes.specs.Step.{stepOf}
 use Rattle.attributes.proofs.WalkLaws.{Hands, Meets, step-meets}
 use Rattle.percent.specs.Percent.{decoded}

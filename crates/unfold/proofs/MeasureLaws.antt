@@ -1,7 +1,7 @@
 -- What measuring answers, field by field, and what its answer says. Assumes nothing.
 use Prim.Native.Nat.{ℕ, zero, suc, _+_, _*_, _≤_, _<_}
 use native.Mathlib.Omega.{arith}
-use mathlib.Core.Path.{_≡_, refl, sym}
+use mathlib.Core.Path.{_≡_, refl}
 use mathlib.Core.Bool.{Bool, true, false, cond}
 use mathlib.Core.List.{List, [], _∷_, flatMap}
 use mathlib.Core.Option.{Option, none, some}
@@ -19,7 +19,6 @@ use Rattle.columns.specs.declared.phase.Phase.{Phase}
 use Rattle.columns.specs.declared.phase.PhaseRead.the-variants as phases
 use Rattle.columns.specs.Columns.{ends, isRecord, indexed, columnPlace, columnText}
 use Rattle.columns.specs.Fields.{isDot, positionText, strandText, phaseText}
-use Rattle.percent.specs.Percent.{decoded}
 use Rattle.percent.proofs.PercentLaws.{length-decoded}
 use Rattle.attributes.specs.Attributes.{Attribute, attributes, walk}
 use Rattle.sheet.specs.Sheet.{attribute-of, sheet-of}
@@ -89,7 +88,7 @@ module _ (s : List ℕ) where
   column-short : (c : Column) → length (columnText c s) ≤ length s
   column-short c = part-short (columnPlace c s .start) (columnPlace c s .end) s
 
-  -- the attributes, ten bytes for each of the line's and the rest of the sheet together
+  -- the attributes, where no text is left without `=`
   pub size-few : {k n : ℕ} → sized (attributes (walk (columnText column.Attributes s))) ≡ size.Is k n → n ≤ 6 + 6 * length s
   size-few e =
       let col = columnText column.Attributes s in
@@ -103,6 +102,7 @@ module _ (s : List ℕ) where
       go true = omega arith
       go false = omega arith
 
+  -- ten bytes of the sheet for each byte of the line, and the counts that every sheet has
   pub sheet-few : length (sheet-of (unfolded s)) ≤ 26 + 10 * length s
   unfolding unfolded
   sheet-few =

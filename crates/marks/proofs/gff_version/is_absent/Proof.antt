@@ -1,5 +1,4 @@
 -- `is_absent` answers `absent`. Assumes nothing.
-use mathlib.Core.Path.{refl}
 use borrow.Author.Needs.{needs}
 use Rattle.marks.specs.Version.{absent}
 use Rattle.marks.proofs.gff_version.is_absent.Statement.{statement}

@@ -1,5 +1,4 @@
 -- `lay_attribute`: the tag, the count of its values, and the values. Assumes nothing.
-use borrow.Author.Needs.{needs}
 use Rattle.buffer.proofs.LaidLaws.{lays-then, lays-length}
 use Rattle.attributes.specs.Attributes.{attribute}
 use Rattle.sheet.specs.Sheet.{counted-of, attribute-of}

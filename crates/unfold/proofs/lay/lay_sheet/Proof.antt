@@ -1,5 +1,4 @@
 -- `lay_sheet`: the sections one after the other. Assumes nothing.
-use borrow.Author.Needs.{needs}
 use Rattle.buffer.proofs.LaidLaws.{lays-then, lays-length}
 use Rattle.columns.specs.Columns.{end, ends, columnPlace}
 use Rattle.sheet.specs.Sheet.{counted-of, sheet-of}
@@ -10,9 +9,9 @@ use Rattle.unfold.proofs.lay.lay_sheet.Tie as tie
 lay-attributes-requires : tie.Need-lay-attributes-requires
 unfolding ends columnPlace
 lay-attributes-requires c κs =
-    let count = c .before .before .before .before in
-    let name = count .before .before .before .before .before .before .before .before .before .before .before .before .before .before .before .before in
-    let s = name .before .before .before .before .before .before .before .before .before in
+    let l₅ = c .before .before .before .before in
+    let l₁ = l₅ .before .before .before .before .before .before .before .before .before .before .before .before .before .before .before .before in
+    let s = l₁ .before .before .before .before .before .before .before .before .before in
     rw (c .before .part .ensures, s .pre .0) (s .pre .2)
 
 returns : tie.Need-returns

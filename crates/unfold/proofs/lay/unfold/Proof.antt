@@ -1,6 +1,6 @@
 -- `unfold`: refused, no room, or the sheet. Assumes nothing.
 use borrow.Author.Needs.{needs}
-use mathlib.Core.Path.{_≡_, sym, _∙_}
+use mathlib.Core.Path.{sym, _∙_}
 use Rattle.buffer.proofs.LaidLaws.{lays-length}
 use Rattle.unfold.proofs.MeasureLaws.{told, unstuck}
 use Rattle.unfold.proofs.UnfoldLaws.{unfolds-refused, unfolds-no-room, unfolds-done}
