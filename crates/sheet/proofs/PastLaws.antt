@@ -22,6 +22,21 @@ module _ {s : List ℕ} {r : ℕ} where
   past-map f k (beyond h) = beyond h
   past-map f k (past {a} h e p) = past h e (k a p)
 
+  -- what else is known of what was read
+  pub past-also : {A : Type 0} {P X : A → Type 0} {m : Taken A} → ((a : A) (rest : List ℕ) → m ≡ took a rest → X a) → Passes P s r m
+      → Passes (λ a. P a × X a) s r m
+  past-also k (beyond h) = beyond h
+  past-also k (past {a} {rest} h e p) = past h e (p, k a rest refl)
+
+  pub past-weaken : {A : Type 0} {P Q : A → Type 0} {m : Taken A} → ((a : A) → P a → Q a) → Passes P s r m → Passes Q s r m
+  past-weaken k (beyond h) = beyond h
+  past-weaken k (past {a} h e p) = past h e (k a p)
+
+  -- inside the text something was read
+  pub past-inside : {A : Type 0} {P : A → Type 0} {m : Taken A} → Passes P s r m → r ≤ length s → (a : A) × P a
+  past-inside (beyond h) l = absurd (omega arith)
+  past-inside (past {a} h e p) l = (a, p)
+
   -- one part after another; behind a part that is not of the form, past the end, the next one is not of the form either
   pub past-then : {A B : Type 0} {P : A → Type 0} {Q : B → Type 0} {k : ℕ} {m : Taken A} (f : A → Reader B) → Passes P s k m
       → (length s < k → length s < r) → ((a : A) → P a → Passes Q s r (f a (drop k s))) → Passes Q s r (onwards m f)
@@ -55,6 +70,22 @@ module _ {A : Type 0} (read : Reader A) {s : List ℕ} {P : A → Type 0} where
       go : {m : Taken A} → Passes P s k m → Passes R s k (onwards m (λ a t. onwards (times read n t) (λ more. took (a ∷ more))))
       go (beyond l) = beyond l
       go (past l e p) = absurd (omega arith)
+
+-- so many as were asked for
+pub times-length : {A : Type 0} (read : Reader A) (n : ℕ) (t : List ℕ) (l : List A) (rest : List ℕ) → times read n t ≡ took l rest → length l ≡ n
+unfolding times
+times-length read zero t l rest e = let z : l ≡ [] = cc in rw z
+times-length {A} read (suc n) t l rest e = first (λ u more v. times-length read n u more v) (read t) e
+  where
+    others : (a : A) (m : Taken (List A)) → ((more : List A) (u : List ℕ) → m ≡ took more u → length more ≡ n)
+        → onwards m (λ more. took (a ∷ more)) ≡ took l rest → length l ≡ suc n
+    others a no-form k e = let z : _≡_ {A = ℕ} 0 1 = cc in absurd (omega arith)
+    others a (took more u) k e = let z : l ≡ a ∷ more = cc in rw z (ap suc (k more u refl))
+
+    first : ((u : List ℕ) (more : List A) (v : List ℕ) → times read n u ≡ took more v → length more ≡ n) → (m : Taken A)
+        → onwards m (λ a u. onwards (times read n u) (λ more. took (a ∷ more))) ≡ took l rest → length l ≡ suc n
+    first k no-form e = let z : _≡_ {A = ℕ} 0 1 = cc in absurd (omega arith)
+    first k (took a u) e = others a (times read n u) (k u) e
 
 -- none is left
 pub past-all : {A : Type 0} (read : Reader A) {s : List ℕ} {Q : List A → Type 0} (left at : ℕ) → left ≡ 0 → at ≤ length s → Q []
@@ -139,3 +170,33 @@ unfolding ended
 past-whole (beyond h) a e = absurd (Option·none-ne-some a e)
 past-whole (past {a = x} {rest = []} h q p) a e = let z : x ≡ a = cc in rw z at p
 past-whole (past {rest = x ∷ rest} h q p) a e = absurd (Option·none-ne-some a e)
+
+-- ── what a sheet's texts were read as ─────────────────────────────────────────────────────────
+
+then-whole : {A B : Type 0} {P : A → Type 0} {s : List ℕ} {k : ℕ} {m : Taken A} (f : A → Reader B) → Passes P s k m → (b : B) → ended (onwards m f) ≡ some b
+    → (a : A) × P a × (ended (f a (drop k s)) ≡ some b)
+unfolding ended
+then-whole f (beyond h) b e = absurd (Option·none-ne-some b e)
+then-whole f (past {a} h q p) b e = (a, p, rw q at e)
+
+sheet-last : {n o t c : List ℕ} (sheet : Sheet) (m : Taken (List Attribute))
+    → ended (onwards m (λ l. took (record { name = n; source = o; type = t; score = c; attributes = l }))) ≡ some sheet
+    → (n ≡ sheet .name) × (o ≡ sheet .source) × (t ≡ sheet .type) × (c ≡ sheet .score)
+unfolding ended
+sheet-last sheet no-form e = absurd (Option·none-ne-some sheet e)
+sheet-last {n} {o} {t} {c} sheet (took l []) e =
+    let z : record { name = n; source = o; type = t; score = c; attributes = l } ≡ sheet = cc in
+    (ap (λ (x : Sheet). x .name) z, ap (λ (x : Sheet). x .source) z, ap (λ (x : Sheet). x .type) z, ap (λ (x : Sheet). x .score) z)
+sheet-last sheet (took l (x ∷ rest)) e = absurd (Option·none-ne-some sheet e)
+
+pub texts-read : {s : List ℕ} {a b c d : ℕ} {N O T C : List ℕ → Type 0}
+    → Passes N s a (section s) → Passes O s b (section (drop a s)) → Passes T s c (section (drop b s)) → Passes C s d (section (drop c s))
+    → (sheet : Sheet) → ended (read-sheet s) ≡ some sheet → N (sheet .name) × O (sheet .source) × T (sheet .type) × C (sheet .score)
+unfolding read-sheet
+texts-read {s} {a} {b} {c} {d} pa pb pc pd sheet e =
+    let n = then-whole _ pa sheet e in
+    let o = then-whole _ pb sheet (n .2) in
+    let t = then-whole _ pc sheet (o .2) in
+    let k = then-whole _ pd sheet (t .2) in
+    let z = sheet-last {n = n .0} {o = o .0} {t = t .0} {c = k .0} sheet (counted read-attribute (drop d s)) (k .2) in
+    (rw (z .0) at (n .1), rw (z .1) at (o .1), rw (z .2) at (t .1), rw (z .3) at (k .1))
