@@ -19,7 +19,8 @@ use Rattle.columns.specs.declared.phase.Phase.{Phase}
 use Rattle.columns.specs.declared.phase.Phase.the-variants as phase
 use Rattle.columns.specs.declared.phase.PhaseRead.the-variants as phaseRead
 use Rattle.columns.specs.Fields as fields
-use Rattle.columns.specs.Fields.{strandNumber, strandText, phaseNumber, phaseText, isDot}
+use Rattle.scan.specs.Same.{isDot}
+use Rattle.columns.specs.Fields.{strandNumber, strandText, phaseNumber, phaseText}
 use Rattle.columns.specs.Score.{isScore}
 use Rattle.columns.proofs.FieldsLaws.{strand-back, phase-back}
 use Rattle.columns.proofs.ScoreLaws.{isScoreByte, score-lacks, score-no-dot}
