@@ -1,9 +1,9 @@
 -- What is known of a record where no reason holds to refuse it, and how its score, strand and phase are read. Assumes nothing.
-use Prim.Native.Nat.{ℕ, zero, suc, _+_, _≤_}
+use Prim.Native.Nat.{ℕ, zero, suc, _≤_}
 use native.Mathlib.Omega.{arith}
 use mathlib.Core.Path.{_≡_, refl, sym, ap, _∙_}
 use mathlib.Core.Logic.{_≢_}
-use mathlib.Core.Bool.{Bool, true, false, cond, not, _||_, _&&_, true≢false}
+use mathlib.Core.Bool.{Bool, true, false, cond, not, _||_, true≢false}
 use mathlib.Core.List.{List, [], _∷_}
 use mathlib.Core.Option.{Option, none, some}
 use lib.Dec.{eqb, ltb}
@@ -25,7 +25,7 @@ use Rattle.columns.proofs.FieldsLaws.{strand-back, phase-back}
 use Rattle.columns.proofs.ScoreLaws.{isScoreByte, score-lacks, score-no-dot}
 use Rattle.sheet.specs.Sheet.{Sheet, sheet-read, isSome, sheet-of}
 use Rattle.sheet.proofs.SheetLaws.{GoodSheet, of-read}
-use Rattle.record.specs.Record.{asked, badScore, isCDS, record-reasons, strandByteOf, phaseByteOf, scoreOf}
+use Rattle.record.specs.Record.{asked, badScore, record-reasons, strandByteOf, phaseByteOf, scoreOf}
 use Rattle.unfold.specs.Unfold as unfolds
 use Rattle.unfold.specs.Unfold.{noScore}
 
@@ -170,3 +170,12 @@ pub scoreOf-lacks : (c : ℕ) → isScoreByte c ≡ false → 46 ≢ c → (s : 
 unfolding scoreOf
 scoreOf-lacks c other dot [] e = (dot, tt)
 scoreOf-lacks c other dot (x ∷ s) e = score-lacks c other (x ∷ s) (token x s e)
+
+-- what is read of a score is raw, or nothing
+pub score-bytes : (s : List ℕ) → Bytes s → Bytes (unfolds.scoreOf s)
+unfolding unfolds.scoreOf
+score-bytes s h = go (isDot s)
+  where
+    go : (t : Bool) → Bytes (cond t [] s)
+    go true = tt
+    go false = h

@@ -2,7 +2,7 @@
 -- enough to unfold. Assumes nothing.
 use Prim.Native.Nat.{ℕ, suc, _+_, _*_, _≤_, _<_}
 use native.Mathlib.Omega.{arith}
-use mathlib.Core.Path.{_≡_, refl, sym, ap, _∙_}
+use mathlib.Core.Path.{_≡_, refl, sym}
 use mathlib.Core.Logic.{_≢_}
 use mathlib.Core.Bool.{Bool, true, false, cond}
 use mathlib.Core.List.{List, [], _∷_, _++_, map, flatMap}
@@ -10,7 +10,6 @@ use lib.Dec.{eqb}
 use lib.ListN.{length, getD, length-append}
 use Rattle.lists.specs.Bytes.{Every, Bytes, Lacks}
 use Rattle.lists.proofs.EveryLaws.{every-append}
-use Rattle.numbers.specs.Decimal.{decimal}
 use Rattle.numbers.specs.Number.{isDigit, most64}
 use Rattle.numbers.proofs.DecimalLaws.{decimal-lacks, length-decimal}
 use Rattle.percent.specs.declared.set.Set.the-variants.{Name, Column, Attribute}
@@ -28,10 +27,10 @@ use Rattle.attributes.specs.Written.{Writable, written, column}
 use Rattle.attributes.proofs.WrittenLaws.{column-lacks}
 use Rattle.columns.proofs.ColumnsLaws.{rowOf}
 use Rattle.columns.proofs.ScoreLaws.{isScoreByte}
-use Rattle.sheet.specs.Sheet.{Sheet, section-of, attribute-of, sheet-of}
-use Rattle.sheet.proofs.SheetLaws.{Text, GoodAttribute, GoodSheet}
+use Rattle.sheet.specs.Sheet.{Sheet, section-of, attribute-of}
+use Rattle.sheet.proofs.SheetLaws.{Text, GoodAttribute}
 use Rattle.sheet.proofs.LengthLaws.{length-section, length-attribute, length-sheet}
-use Rattle.record.specs.Record.{strandByteOf, phaseByteOf, scoreOf, columns, record-line}
+use Rattle.record.specs.Record.{strandByteOf, phaseByteOf, columns, record-line}
 use Rattle.roundtrip.proofs.AcceptedLaws.{Accepted, length-score, scoreOf-lacks}
 
 -- column 9 as it is written

@@ -2,8 +2,8 @@
 use Prim.Native.Nat.{ℕ, _≤_}
 use native.Mathlib.Omega.{arith}
 use mathlib.Core.Path.{_≡_, refl, sym, ap, _∙_}
-use mathlib.Core.Bool.{true, false}
-use mathlib.Core.List.{List, [], _∷_, _++_}
+use mathlib.Core.Bool.{true}
+use mathlib.Core.List.{List}
 use mathlib.Core.Option.{some}
 use lib.ListN.{length, getD}
 use borrow.Author.Tests.{le-ltb}
@@ -13,7 +13,6 @@ use Rattle.numbers.specs.Decimal.{decimal}
 use Rattle.numbers.specs.Number.{most64}
 use Rattle.numbers.proofs.DecimalLaws.{position-decimal}
 use Rattle.percent.specs.declared.set.Set.the-variants as set
-use Rattle.percent.specs.Percent.{decoded, encoded}
 use Rattle.percent.specs.Sets.{escapes}
 use Rattle.percent.proofs.SetLaws.{decoded-set}
 use Rattle.lines.specs.declared.kind.Kind.the-variants.{Record}
@@ -28,9 +27,9 @@ use Rattle.columns.specs.declared.strand.StrandRead.the-variants as strandRead
 use Rattle.columns.specs.declared.phase.PhaseRead.the-variants as phaseRead
 use Rattle.columns.specs.Columns.{isRecord, columnText}
 use Rattle.columns.specs.Fields.{positionText, strandText, phaseText}
-use Rattle.columns.proofs.ColumnsLaws.{rowOf, tabsBefore, row-record, row-text}
+use Rattle.columns.proofs.ColumnsLaws.{tabsBefore, row-record, row-text}
 use Rattle.sheet.specs.Sheet.{sheet-read, sheet-of}
-use Rattle.record.specs.Record.{strandByteOf, phaseByteOf, scoreOf, columns, record-reasons, record-line}
+use Rattle.record.specs.Record.{columns, record-reasons, record-line}
 use Rattle.unfold.specs.declared.lay.Unfolded.{Unfolded}
 use Rattle.unfold.specs.declared.lay.Unfolded.the-variants.{Done}
 use Rattle.unfold.specs.Unfold.{unfolded, numbers-of, unfold-reasons, unfolding-by, contents, Unfolds}
