@@ -141,8 +141,12 @@ phase-read n h = ap (λ k. phaseText (phaseByteOf k ∷ [])) (sym (phase-number 
 
 -- ── the score ─────────────────────────────────────────────────────────────────────────────────
 
--- a score that is not missing is a token, and so not `.`
-token : (x : ℕ) (s : List ℕ) → not (eqb (length (x ∷ s)) 0 || isScore (x ∷ s)) ≡ false → isScore (x ∷ s) ≡ true
+-- a score that is missing or a token
+abbrev pub Fit : List ℕ → Type 0
+Fit s = not (eqb (length s) 0 || isScore s) ≡ false
+
+-- one that is not missing is a token, and so not `.`
+token : (x : ℕ) (s : List ℕ) → Fit (x ∷ s) → isScore (x ∷ s) ≡ true
 token x s e = go (isScore (x ∷ s)) (rw (ne-eqb (suc (length s)) 0 (omega arith)) at e)
   where
     go : (t : Bool) → not t ≡ false → t ≡ true
@@ -161,12 +165,12 @@ unfolding scoreOf
 length-score [] = omega arith
 length-score (x ∷ s) = omega arith
 
-pub score-read : (s : List ℕ) → not (eqb (length s) 0 || isScore s) ≡ false → (noScore (scoreOf s) ≡ false) × (unfolds.scoreOf (scoreOf s) ≡ s)
+pub score-read : (s : List ℕ) → Fit s → (noScore (scoreOf s) ≡ false) × (unfolds.scoreOf (scoreOf s) ≡ s)
 unfolding scoreOf unfolds.scoreOf isDot
 score-read [] e = (refl, refl)
 score-read (x ∷ s) e = let t = token x s e in (rw (no-dot (x ∷ s) t, t), rw (no-dot (x ∷ s) t))
 
-pub scoreOf-lacks : (c : ℕ) → isScoreByte c ≡ false → 46 ≢ c → (s : List ℕ) → not (eqb (length s) 0 || isScore s) ≡ false → Lacks c (scoreOf s)
+pub scoreOf-lacks : (c : ℕ) → isScoreByte c ≡ false → 46 ≢ c → (s : List ℕ) → Fit s → Lacks c (scoreOf s)
 unfolding scoreOf
 scoreOf-lacks c other dot [] e = (dot, tt)
 scoreOf-lacks c other dot (x ∷ s) e = score-lacks c other (x ∷ s) (token x s e)

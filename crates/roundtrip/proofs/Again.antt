@@ -21,7 +21,7 @@ use Rattle.roundtrip.specs.Reading.{ReadsRecord}
 use Rattle.roundtrip.proofs.BytesLaws.{unfolded-bytes, position-le}
 use Rattle.roundtrip.proofs.RecordBack.{record-back}
 
--- by the definitions, whatever stands in a column that is refused
+-- by the definitions, where the writer accepts what was unfolded; so too of a line with a refused column, by what stands in its place
 pub written-again : (line : List ℕ) → Bytes line
     → let s = sheet-of (unfolded line) in
     let n = numbers-of line in
