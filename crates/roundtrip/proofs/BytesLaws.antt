@@ -18,7 +18,8 @@ use Rattle.numbers.specs.Number.{position, most64}
 use Rattle.numbers.proofs.NumberLaws.{numeral-bounds}
 use Rattle.percent.specs.Percent.{isHex, hexValue, decoded}
 use Rattle.attributes.specs.Pieces.{pieces-after, pieces}
-use Rattle.attributes.specs.Attributes.{Walk, done, refused, then, tag-after, value-after, isDot, walk-from, walk, Attribute, attribute, before, attributes}
+use Rattle.scan.specs.Same.{isDot}
+use Rattle.attributes.specs.Attributes.{Walk, done, refused, then, tag-after, value-after, walk-from, walk, Attribute, attribute, before, attributes}
 use Rattle.columns.specs.declared.column.Column.{Column}
 use Rattle.columns.specs.declared.column.Column.the-variants as column
 use Rattle.columns.specs.Columns.{columnPlace, columnText}
