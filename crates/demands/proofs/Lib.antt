@@ -1,3 +1,4 @@
+pub mod AnswerLaws
 pub mod DamageLaws
 pub mod Demands
 pub mod ItemLaws
