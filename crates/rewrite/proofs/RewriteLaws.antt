@@ -1,17 +1,18 @@
--- What unfolding and writing answer, as the refusal or the line that is written. Assumes nothing.
+-- What unfolding and writing answer, as the refusal or the line that is written; and the answers of a text in a row. Assumes nothing.
 use Prim.Native.Nat.{ℕ, zero, suc, _-_, _^_, _≤_, _<_}
 use native.Mathlib.Omega.{arith}
-use mathlib.Core.Path.{_≡_, refl, sym, ap, _∙_}
+use mathlib.Core.Path.{_≡_, refl, _∙_}
 use mathlib.Core.Bool.{Bool, true, false, cond}
 use mathlib.Core.List.{List, [], _∷_, _++_, map}
 use lib.Dec.{ltb}
 use lib.ListN.{length, drop}
 use lib.Seq.{take-at}
+use borrow.Author.Tests.{le-ltb}
 use Rattle.lists.specs.Bytes.{Every}
 use Rattle.scan.specs.Part.{part}
 use Rattle.buffer.specs.declared.Written.{Written}
 use Rattle.buffer.specs.declared.Written.the-variants as writing
-use Rattle.buffer.specs.Answer.{Reason, _when_, first, answer, contents, Wrote}
+use Rattle.buffer.specs.Answer.{Reason, first, answer, contents, Wrote}
 use Rattle.buffer.specs.Laid.{Lays}
 use Rattle.buffer.proofs.LaidLaws.{laid-start, lays-then}
 use Rattle.numbers.specs.Decimal.{decimal}
@@ -19,11 +20,14 @@ use Rattle.numbers.proofs.DecimalLaws.{length-decimal}
 use Rattle.unfold.specs.declared.judging.Numbers.{Numbers}
 use Rattle.unfold.specs.declared.lay.Unfolded.{Unfolded}
 use Rattle.unfold.specs.declared.lay.Unfolded.the-variants as unfolding-answers
-use Rattle.unfold.specs.Unfold.{numbers-of, unfold-reasons, unfolding-by, Unfolds}
+use Rattle.unfold.specs.Unfold.{unfold-reasons, unfolding-by, Unfolds}
 use Rattle.unfold.specs.Unfold.{contents as sheet-left}
+use Rattle.lines.specs.Lines.{text}
+use Rattle.lines.specs.Step.{steps}
+use Rattle.lines.proofs.StepLaws.{steps-lines}
 use Rattle.columns.specs.Fields.{strandNumber, phaseNumber}
 use Rattle.record.specs.Record.{record-reasons, record-line}
-use Rattle.rewrite.specs.Rewrite.{room, sheet-from, line-again, again-reasons, rewrite-reasons, refusal, said, written-again, record-again}
+use Rattle.rewrite.specs.Rewrite.{room, sheet-from, line-again, refusal, said, written-again, record-again, line-rewritten, rewritten}
 
 -- ── reasons, then others ──────────────────────────────────────────────────────────────────────
 
@@ -110,3 +114,10 @@ unfolding-case s d zero false e l = rw (first-none (unfold-reasons s) _ (numbere
 
 pub unfolds : {s d d' : List ℕ} {r k : Unfolded} → Unfolds s d d' r → length d ≡ room → r ≡ k → Unfolding s d' k
 unfolds {s} {d} p l e = rw (← e, p .left, p .result, l) (unfolding-case s d _ _ refl refl)
+
+-- ── a whole text ──────────────────────────────────────────────────────────────────────────────
+
+-- the answers for the lines that steps from the start hand out, each with a line feed, are the whole output
+pub turns : (s : List ℕ) → length s ≤ room → text (map line-rewritten (steps (length s) s 0)) ≡ rewritten s
+unfolding rewritten
+turns s h = rw (le-ltb room (length s) h, steps-lines (length s) s 0 (omega arith))

@@ -1,8 +1,5 @@
 -- `rewrite_line`, by the line's kind. Assumes nothing.
 use borrow.Author.Needs.{needs}
-use mathlib.Core.Path.{_≡_, sym, _∙_}
-use mathlib.Core.List.{List}
-use Prim.Native.Nat.{ℕ}
 use Rattle.rewrite.specs.Rewrite.{line-rewritten}
 use Rattle.rewrite.proofs.line.rewrite_line.Statement.{statement}
 use Rattle.rewrite.proofs.line.rewrite_line.Tie as tie

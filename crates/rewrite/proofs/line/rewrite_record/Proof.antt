@@ -1,9 +1,6 @@
 -- `rewrite_record`: the sheet written again, or unfolding's refusal. Assumes nothing.
 use borrow.Author.Needs.{needs}
-use mathlib.Core.Path.{ap, _∙_}
-use mathlib.Core.List.{List}
-use Prim.Native.Nat.{ℕ}
-use Rattle.rewrite.specs.Rewrite.{written-again}
+use mathlib.Core.Path.{_∙_}
 use Rattle.rewrite.proofs.RewriteLaws.{unfolds}
 use Rattle.rewrite.proofs.line.rewrite_record.Statement.{statement}
 use Rattle.rewrite.proofs.line.rewrite_record.Tie as tie
