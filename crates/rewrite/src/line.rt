@@ -32,14 +32,9 @@ fn write_again(sheet: &[u8], numbers: Numbers, out: &mut [u8]) -> usize
 {
     let strand = numbers.strand;
     let phase = numbers.phase;
-    match record::write_record(
-        sheet,
-        numbers.start,
-        numbers.end,
-        columns::strand_number(strand),
-        columns::phase_number(phase),
-        out,
-    ) {
+    let strand = columns::strand_number(strand);
+    let phase = columns::phase_number(phase);
+    match record::write_record(sheet, numbers.start, numbers.end, strand, phase, out) {
         Written::Done(n) => n,
         Written::Refused(n) => refuse(n, out),
         Written::NoRoom(_) => refuse(22, out),
