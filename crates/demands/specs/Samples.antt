@@ -1,5 +1,6 @@
 -- The samples that document 01, "Sample lines", marks P, as one list: of each the document's words, and the equation that they stand for,
--- over the definitions that the functions' promises cite. Assumes nothing: these are definitions.
+-- over the definitions that the functions' promises cite. Some stand in the crates' own Samples too, so that a change is refused where it is
+-- made. Assumes nothing: these are definitions.
 use Prim.Native.Nat.{ℕ}
 use Prim.Native.Char.{code}
 use Prim.Native.String.{String, [] as no-char, _∷_ as _then-char_}
