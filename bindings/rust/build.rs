@@ -12,10 +12,7 @@ fn main() {
     };
     let archive = Path::new(&folder).join("libgff3_lines.a");
     if !archive.is_file() {
-        println!(
-            "cargo::error={} is missing: tools/library writes it",
-            archive.display()
-        );
+        println!("cargo::error={} is missing: tools/library writes it", archive.display());
         return;
     }
     println!("cargo::rerun-if-changed={}", archive.display());

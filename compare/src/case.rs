@@ -85,7 +85,11 @@ impl fmt::Display for Case<'_> {
         }
 
         if self.number != 0 {
-            writeln!(f, "  number   {} (the cursor, the column, the set or the kind)", self.number)?;
+            writeln!(
+                f,
+                "  number   {} (the cursor, the column, the set or the kind)",
+                self.number
+            )?;
         }
 
         if self.numbers != [0; 4] {

@@ -216,9 +216,14 @@ fn directive_of(report: &mut Report, case: Case<'_>) {
 }
 
 fn comment(desk: &mut Desk, case: Case<'_>) -> Verdict {
-    let reasons = [(24, is_long(case.text)), (20, breaks(case.text) || case.text.starts_with(b"#"))];
+    let reasons = [
+        (24, is_long(case.text)),
+        (20, breaks(case.text) || case.text.starts_with(b"#")),
+    ];
     let line = rust::write_comment(case.text);
-    written(desk, case, &reasons, line, |[text, ..], out| ours::write_comment(text, out))
+    written(desk, case, &reasons, line, |[text, ..], out| {
+        ours::write_comment(text, out)
+    })
 }
 
 /// The value in its two forms.
@@ -237,11 +242,7 @@ fn value(case: Case<'_>) -> (DirectiveValue, Typed<'_>) {
     };
     let rust = match case.number {
         TEXT => Typed::String(case.tag),
-        VERSION => Typed::Version((
-            a as u32,
-            has_minor.then_some(b as u32),
-            has_patch.then_some(c as u32),
-        )),
+        VERSION => Typed::Version((a as u32, has_minor.then_some(b as u32), has_patch.then_some(c as u32))),
         REGION => Typed::Region(case.tag, a, b),
         BUILD => Typed::Build(case.tag, case.second),
         _ => Typed::None,

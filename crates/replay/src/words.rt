@@ -25,6 +25,10 @@ pub(crate) enum Case {
     Version,
     Region,
     Build,
+    Judge,
+    Unfold,
+    WriteComment,
+    WriteDirective,
     Unknown,
 }
 
@@ -55,6 +59,10 @@ pub(crate) fn letter(line: &[u8]) -> Case {
         b'1' => Case::Version,
         b'2' => Case::Region,
         b'3' => Case::Build,
+        b'J' => Case::Judge,
+        b'U' => Case::Unfold,
+        b'c' => Case::WriteComment,
+        b'k' => Case::WriteDirective,
         _ => Case::Unknown,
     }
 }
