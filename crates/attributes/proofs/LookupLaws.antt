@@ -3,9 +3,9 @@ use Prim.Native.Nat.{ℕ}
 use mathlib.Core.Path.{_≡_, refl}
 use mathlib.Core.Bool.{cond}
 use mathlib.Core.List.{List}
+use Rattle.scan.specs.Same.{same}
 use Rattle.scan.specs.Part.{textAt}
 use Rattle.percent.specs.Percent.{decoded}
-use Rattle.percent.specs.Unit.{same}
 use Rattle.attributes.specs.declared.field.Field.{Field}
 use Rattle.attributes.specs.declared.lookup.Found.the-variants.{At, Absent, Refused}
 use Rattle.attributes.specs.Attributes.{done, refused, walk-from}

@@ -3,13 +3,13 @@ use Prim.Native.Nat.{ℕ}
 use mathlib.Core.Path.{_≡_, refl}
 use mathlib.Core.Option.{some}
 use mathlib.Core.List.{List, [], _∷_}
+use Rattle.scan.specs.Same.{same, isDot}
 use Rattle.scan.specs.Find.{index, seek}
 use Rattle.percent.specs.Percent.{isHex, hexValue, decoded}
-use Rattle.percent.specs.Unit.{same}
 use Rattle.attributes.specs.declared.field.Step.the-variants as step
 use Rattle.attributes.specs.declared.lookup.Found.the-variants.{At, Absent, Refused}
 use Rattle.attributes.specs.Pieces.{pieces-after}
-use Rattle.attributes.specs.Attributes.{done, refused, then, tag-after, isDot, walk-from, walk, attribute, attributes}
+use Rattle.attributes.specs.Attributes.{done, refused, then, tag-after, walk-from, walk, attribute, attributes}
 use Rattle.attributes.specs.Step.{stepOf}
 use Rattle.attributes.specs.Lookup.{lookup-in, lookup}
 

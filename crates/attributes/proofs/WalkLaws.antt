@@ -13,6 +13,7 @@ use lib.ListN.{length, take, drop, length-drop, drop-of-length-le}
 use lib.Seq.{take-length}
 use borrow.Author.Tests.{ne-eqb, leb-true, leb-false, eqb-true, eqb-false}
 use Rattle.lists.specs.Bytes.{Lacks}
+use Rattle.scan.specs.Same.{isDot}
 use Rattle.scan.specs.Find.{index, is, found}
 use Rattle.scan.specs.Part.{part, textAt}
 use Rattle.scan.proofs.FindLaws.{index-le, seek-at, seek-le, seek-ge, lacks-before, cut-at, lacks-all}
@@ -20,7 +21,7 @@ use Rattle.scan.proofs.PartLaws.{length-part, part-found, drop-found}
 use Rattle.attributes.specs.declared.field.Field.{Field}
 use Rattle.attributes.specs.declared.field.Step.{Step}
 use Rattle.attributes.specs.declared.field.Step.the-variants.{Is, Done, Refused}
-use Rattle.attributes.specs.Attributes.{done, refused, then, tag-after, value-after, isDot, walk-from}
+use Rattle.attributes.specs.Attributes.{done, refused, then, tag-after, value-after, walk-from}
 use Rattle.attributes.specs.Step.{fieldTo, stepOf, stepped, steps}
 
 -- ── a text that begins with a tag or a value ──────────────────────────────────────────────────

@@ -7,6 +7,7 @@ use mathlib.Core.List.{List, [], _∷_, _++_, map}
 use mathlib.Core.Option.{Option, none, some}
 use lib.Dec.{eqb}
 use lib.ListN.{drop}
+use Rattle.scan.specs.Same.{isDot}
 use Rattle.percent.specs.Percent.{decoded}
 use Rattle.attributes.specs.Pieces.{pieces}
 
@@ -26,12 +27,6 @@ unfoldable mutual
   pub value-after : List ℕ → List ℕ → List ℕ → Walk
   value-after tag value [] = then tag value done
   value-after tag value (x ∷ s) = cond (eqb x 59) (then tag value (tag-after [] s)) (value-after tag (value ++ (x ∷ [])) s)
-
--- the exact byte `.`
-unfoldable pub isDot : List ℕ → Bool
-isDot [] = false
-isDot (x ∷ []) = eqb x 46
-isDot (x ∷ y ∷ s) = false
 
 -- no attributes: `.` or nothing
 unfoldable pub isEmpty : List ℕ → Bool

@@ -4,9 +4,9 @@ use Prim.Native.Nat.{ℕ, _+_}
 use mathlib.Core.Bool.{Bool, true, false, cond}
 use mathlib.Core.List.{List}
 use lib.ListN.{length}
+use Rattle.scan.specs.Same.{same}
 use Rattle.scan.specs.Part.{textAt}
 use Rattle.percent.specs.Percent.{decoded}
-use Rattle.percent.specs.Unit.{same}
 use Rattle.attributes.specs.declared.lookup.Found.{Found}
 use Rattle.attributes.specs.declared.lookup.Found.the-variants.{At, Absent, Refused}
 use Rattle.attributes.specs.Attributes.{Walk, done, refused, then, walk}

@@ -5,6 +5,7 @@ use mathlib.Core.Bool.{Bool, true, false, cond}
 use mathlib.Core.List.{List, [], _∷_}
 use lib.Dec.{eqb, leb}
 use lib.ListN.{length}
+use Rattle.scan.specs.Same.{isDot}
 use Rattle.scan.specs.declared.place.Place.{Place}
 use Rattle.scan.specs.Find.{found}
 use Rattle.scan.specs.Part.{textAt}
@@ -14,7 +15,7 @@ use Rattle.attributes.specs.declared.field.Step.the-variants.{Is, Done, 
 use Rattle.attributes.specs.declared.value.ValueCursor.{ValueCursor}
 use Rattle.attributes.specs.declared.value.NextValue.{NextValue}
 use Rattle.attributes.specs.declared.value.NextValue.the-variants as next
-use Rattle.attributes.specs.Attributes.{isDot, Walk, done, refused, then}
+use Rattle.attributes.specs.Attributes.{Walk, done, refused, then}
 
 -- ── the walk ──
 

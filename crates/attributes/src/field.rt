@@ -1,7 +1,7 @@
 // `field::next`: a step of the walk over column 9.
 use scan::Place;
 ghost use mathlib.Core.Path.{_≡_};
-ghost use Rattle.attributes.specs.Attributes.{isDot, isEmpty};
+ghost use Rattle.attributes.specs.Attributes.{isEmpty};
 ghost use Rattle.attributes.specs.Step.{stepOf};
 
 // An attribute as it stands in the column, and the cursor behind it.
@@ -19,15 +19,6 @@ pub enum Step {
     Refused,
 }
 
-fn is_dot(column: &[u8]) -> bool
-    ensures { λ r. ⌜ r ≡ isDot (now (column .entry)) ⌝ }
-{
-    if column.len() == 1 {
-        return column[0] == b'.';
-    }
-    false
-}
-
 // `Attributes::is_empty`: the column is `.` or has no byte.
 pub fn is_empty(column: &[u8]) -> bool
     ensures { λ r. ⌜ r ≡ isEmpty (now (column .entry)) ⌝ }
@@ -35,7 +26,7 @@ pub fn is_empty(column: &[u8]) -> bool
     if column.len() == 0 {
         return true;
     }
-    is_dot(column)
+    scan::is_dot(column)
 }
 
 // The attribute at a cursor. `a=1;b;c=2` has the tags `a` and `b;c`; `a=1;` has one; `a=1;b` has one, and then 5. A cursor in the middle
@@ -43,7 +34,7 @@ pub fn is_empty(column: &[u8]) -> bool
 pub fn next_field(column: &[u8], at: usize) -> Step
     ensures { λ r. ⌜ r ≡ stepOf (now (column .entry)) at ⌝ }
 {
-    if is_dot(column) {
+    if scan::is_dot(column) {
         return Step::Done;
     }
     if column.len() <= at {

@@ -8,6 +8,7 @@ use mathlib.Core.List.{List, [], _∷_}
 use lib.Dec.{eqb}
 use lib.ListN.{length, getD}
 use borrow.Author.Tests.{ne-eqb}
+use Rattle.scan.specs.Same.{isDot}
 use Rattle.scan.specs.declared.place.Place.{Place}
 use Rattle.columns.specs.declared.score.ScoreRead.the-variants as scoreRead
 use Rattle.columns.specs.declared.strand.Strand.{Strand}
@@ -16,7 +17,7 @@ use Rattle.columns.specs.declared.strand.StrandRead.the-variants as stra
 use Rattle.columns.specs.declared.phase.Phase.{Phase}
 use Rattle.columns.specs.declared.phase.Phase.the-variants as phase
 use Rattle.columns.specs.declared.phase.PhaseRead.the-variants as phaseRead
-use Rattle.columns.specs.Fields.{strandNumber, phaseNumber, strandByte, strandText, strandByteOf, phaseByte, phaseText, phaseByteOf, isDot, scoreText}
+use Rattle.columns.specs.Fields.{strandNumber, phaseNumber, strandByte, strandText, strandByteOf, phaseByte, phaseText, phaseByteOf, scoreText}
 use Rattle.columns.specs.Score.{isScore}
 use Rattle.columns.proofs.ScoreLaws.{score-no-dot}
 
@@ -48,10 +49,6 @@ strand-byte = one-byte strandText strandByte refl (λ x. refl) (λ x y s. refl)
 pub phase-byte : OneByte phaseText phaseByte (phaseRead.Refused 4)
 unfolding phaseText
 phase-byte = one-byte phaseText phaseByte refl (λ x. refl) (λ x y s. refl)
-
-pub dot-byte : OneByte isDot (λ x. eqb x 46) false
-unfolding isDot
-dot-byte = one-byte isDot (λ x. eqb x 46) refl (λ x. refl) (λ x y s. refl)
 
 -- ── written and read ──────────────────────────────────────────────────────────────────────────
 

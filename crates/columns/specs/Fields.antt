@@ -5,6 +5,7 @@ use Prim.Native.Nat.{ℕ}
 use mathlib.Core.Bool.{Bool, false, cond, not}
 use mathlib.Core.List.{List, [], _∷_}
 use lib.Dec.{eqb}
+use Rattle.scan.specs.Same.{isDot}
 use Rattle.scan.specs.declared.place.Place.{Place}
 use Rattle.numbers.specs.declared.read.Number.{Number}
 use Rattle.numbers.specs.declared.read.Number.the-variants.{Value, Invalid}
@@ -92,12 +93,6 @@ phaseByteOf phase.Zero = 48
 phaseByteOf phase.One = 49
 phaseByteOf phase.Two = 50
 phaseByteOf phase.None = 46
-
--- the exact byte `.`
-unfoldable pub isDot : List ℕ → Bool
-isDot [] = false
-isDot (x ∷ []) = eqb x 46
-isDot (x ∷ y ∷ s) = false
 
 -- `.` is missing; else the whole text is the token, which stands at a place; else 17
 unfoldable pub scoreText : List ℕ → Place → ScoreRead

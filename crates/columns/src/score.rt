@@ -6,7 +6,7 @@ ghost use mathlib.Core.Path.{_≡_};
 ghost use Prim.Native.Nat.{_≤_};
 ghost use lib.ListN.{length, drop};
 ghost use Rattle.scan.specs.Find.{seek};
-ghost use Rattle.columns.specs.Fields.{isDot, scoreAt};
+ghost use Rattle.columns.specs.Fields.{scoreAt};
 ghost use Rattle.columns.specs.Score.{noDigit, isExponent, isFraction, isScore};
 
 pub enum ScoreRead {
@@ -90,15 +90,6 @@ pub fn is_score(s: &[u8]) -> bool
     is_fraction(s, to)
 }
 
-fn is_dot(s: &[u8]) -> bool
-    ensures { λ r. ⌜ r ≡ isDot (now (s .entry)) ⌝ }
-{
-    if s.len() == 1 {
-        return s[0] == b'.';
-    }
-    false
-}
-
 // Column 6. Refusals, in order: 1, not the line's own bounds; 17, no score token. An empty column is 17: only the exact `.` is missing.
 pub fn score_at(line: &[u8], bounds: Bounds) -> ScoreRead
     ensures { λ r. ⌜ r ≡ scoreAt (now (line .entry)) bounds ⌝ }
@@ -107,7 +98,7 @@ pub fn score_at(line: &[u8], bounds: Bounds) -> ScoreRead
         return ScoreRead::Refused(1);
     }
     let token = super::column::text(line, bounds, Column::Score);
-    if is_dot(token) {
+    if scan::is_dot(token) {
         return ScoreRead::Missing;
     }
     if is_score(token) {

@@ -3,9 +3,9 @@ use Prim.Native.Nat.{ℕ}
 use mathlib.Core.Bool.{false, not, _||_}
 use mathlib.Core.List.{List, [], _∷_, _++_}
 use lib.Dec.{eqb}
+use Rattle.scan.specs.Same.{same}
 use Rattle.buffer.specs.Answer.{Reason}
 use Rattle.numbers.specs.Decimal.{decimal}
-use Rattle.percent.specs.Unit.{same}
 use Rattle.marks.specs.Judge.{long, unfit, reasons}
 
 -- `sequence-region`

@@ -3,9 +3,9 @@
 use Prim.Native.Nat.{ℕ}
 use mathlib.Core.Bool.{Bool, true, false, not, _&&_}
 use mathlib.Core.List.{List, [], _∷_, _++_}
+use Rattle.scan.specs.Same.{same}
 use Rattle.buffer.specs.Answer.{Reason}
 use Rattle.numbers.specs.Decimal.{decimal}
-use Rattle.percent.specs.Unit.{same}
 use Rattle.directives.specs.declared.gff_version.GffVersion.{GffVersion}
 use Rattle.directives.specs.declared.gff_version.Part.{Part}
 use Rattle.directives.specs.declared.gff_version.Part.the-variants.{Is, Absent}

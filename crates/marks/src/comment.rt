@@ -16,8 +16,8 @@ fn is_hashed(text: &[u8]) -> bool
 fn refusal(text: &[u8]) -> u32
     ensures { λ r. ⌜ r ≡ first (comment-reasons (now (text .entry))) ⌝ }
 {
-    let n = super::judge::either(super::judge::breaks(text) | is_hashed(text), 20, 0);
-    super::judge::either(super::judge::is_long(text), 24, n)
+    let n = buffer::either(super::judge::breaks(text) | is_hashed(text), 20, 0);
+    buffer::either(super::judge::is_long(text), 24, n)
 }
 
 // Writes `#` and the text at the start of a buffer. Refusals, in order: 24, the text is over 1,048,576 bytes; 20, it holds a carriage

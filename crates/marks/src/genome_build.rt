@@ -9,7 +9,7 @@ ghost use Rattle.marks.specs.GenomeBuild.{build-reasons, build-tail};
 pub(crate) fn build_refusal(key: &[u8], source: &[u8], name: &[u8]) -> u32
     ensures { λ r. ⌜ r ≡ first (build-reasons (now (key .entry)) (now (source .entry)) (now (name .entry))) ⌝ }
 {
-    let own = super::judge::is_same(key, b"genome-build");
+    let own = scan::is_same(key, b"genome-build");
     let long = super::judge::is_long(source) | super::judge::is_long(name);
     let unfit = super::judge::is_unfit(source) | super::judge::is_unfit(name);
     super::judge::refusal(key, long, !own, unfit, false, false)

@@ -20,7 +20,7 @@ fn is_absent(part: Part) -> bool
 pub(crate) fn version_refusal(key: &[u8], version: GffVersion) -> u32
     ensures { λ r. ⌜ r ≡ first (version-reasons (now (key .entry)) version) ⌝ }
 {
-    let own = super::judge::is_same(key, b"gff-version");
+    let own = scan::is_same(key, b"gff-version");
     let minor = version.minor;
     let patch = version.patch;
     let alone = is_absent(minor) & !is_absent(patch);

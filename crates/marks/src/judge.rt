@@ -1,19 +1,11 @@
 // What is asked of the texts of a comment or a directive before the first byte is written.
 ghost use mathlib.Core.Path.{_≡_};
-ghost use mathlib.Core.Bool.{cond};
 ghost use Rattle.scan.specs.Word.{isSpace};
-ghost use Rattle.percent.specs.Unit.{same};
 ghost use Rattle.buffer.specs.Answer.{first};
 ghost use Rattle.marks.specs.Judge.{holds, long, breaks, unfit, reasons};
 
 // The longest text of a comment or a directive.
 const LONGEST: usize = 1048576;
-
-pub(crate) fn either(test: bool, number: u32, other: u32) -> u32
-    ensures { λ r. ⌜ r ≡ cond test number other ⌝ }
-{
-    if test { number } else { other }
-}
 
 pub(crate) fn is_long(s: &[u8]) -> bool
     ensures { λ r. ⌜ r ≡ long (now (s .entry)) ⌝ }
@@ -41,22 +33,6 @@ pub(crate) fn is_unfit(s: &[u8]) -> bool
     (s.len() == 0) | is_spaced(s)
 }
 
-pub(crate) fn is_same(s: &[u8], t: &[u8]) -> bool
-    ensures { λ r. ⌜ r ≡ same (now (s .entry)) (now (t .entry)) ⌝ }
-{
-    let mut i = 0;
-    while i < s.len() {
-        if i == t.len() {
-            return false;
-        }
-        if s[i] != t[i] {
-            return false;
-        }
-        i += 1;
-    }
-    i == t.len()
-}
-
 // The number of the first reason to refuse a directive, or 0, by its key and by what was found of its value: from the last reason to the
 // first, as an earlier one goes before it.
 pub(crate) fn refusal(
@@ -70,10 +46,10 @@ pub(crate) fn refusal(
     ensures { λ r. ⌜ r ≡ first (reasons (now (key .entry)) long foreign unfit alone zero) ⌝ }
 {
     let spaced = is_spaced(key);
-    let mut n = either(zero, 2, 0);
-    n = either(alone, 9, n);
-    n = either(unfit, 20, n);
-    n = either(spaced, 19, n);
-    n = either(foreign, 21, n);
-    either((LONGEST < key.len()) | long, 24, n)
+    let mut n = buffer::either(zero, 2, 0);
+    n = buffer::either(alone, 9, n);
+    n = buffer::either(unfit, 20, n);
+    n = buffer::either(spaced, 19, n);
+    n = buffer::either(foreign, 21, n);
+    buffer::either((LONGEST < key.len()) | long, 24, n)
 }

@@ -9,7 +9,7 @@ ghost use Rattle.marks.specs.Region.{region-reasons, region-tail};
 pub(crate) fn region_refusal(key: &[u8], name: &[u8], start: u64, end: u64) -> u32
     ensures { λ r. ⌜ r ≡ first (region-reasons (now (key .entry)) (now (name .entry)) start end) ⌝ }
 {
-    let own = super::judge::is_same(key, b"sequence-region");
+    let own = scan::is_same(key, b"sequence-region");
     let long = super::judge::is_long(name);
     let unfit = super::judge::is_unfit(name);
     super::judge::refusal(key, long, !own, unfit, false, (start == 0) | (end == 0))

@@ -7,19 +7,16 @@ use mathlib.Core.List.{List, [], _∷_, _++_}
 use lib.Dec.{eqb, ltb}
 use borrow.Author.Tests.{ltb-true}
 use lib.ListN.{length, take, drop, getD, length-drop, drop-of-length-le, take-append-drop, length-append}
-use lib.Seq.{drop-cons, drop-drop}
+use lib.Seq.{drop-drop}
 use Rattle.lists.proofs.BoolLaws.{and-left, and-right}
 use Rattle.scan.specs.Find.{index, is, found}
 use Rattle.scan.specs.Part.{part}
 use Rattle.scan.proofs.FindLaws.{lacks-before, seek-at, seek-ge, seek-le}
 use Rattle.scan.proofs.PartLaws.{part-found, length-part}
+use Rattle.scan.proofs.SameLaws.{cons-at}
 use Rattle.percent.specs.Percent.{isHex, hexValue, decoded, piece, encoded, count}
 use Rattle.percent.specs.Unit.{Hex, Decodes}
 use Rattle.percent.proofs.PercentLaws.{decoded-plain, decoded-begin}
-
--- one byte at a cursor
-pub cons-at : (s : List ℕ) (i j : ℕ) → i < length s → suc i ≡ j → drop i s ≡ getD s i 0 ∷ drop j s
-cons-at s i j h e = rw (← e) (drop-cons s i 0 h)
 
 -- up to the next percent sign, which is at p, a text stands for itself
 pub decoded-run : (at p : ℕ) (s : List ℕ) → at ≤ length s → p ≡ found 37 at s → decoded (drop at s) ≡ part at p s ++ decoded (drop p s)

@@ -1,9 +1,9 @@
--- One step of decoding, and the same bytes. Assumes nothing: these are definitions.
+-- One step of decoding. Assumes nothing: these are definitions.
 use Prim.Native.Nat.{ℕ, _<_, _≤_}
 use mathlib.Core.Path.{_≡_}
-use mathlib.Core.Bool.{Bool, true, false, cond, _&&_}
-use mathlib.Core.List.{List, [], _∷_}
-use lib.Dec.{eqb, ltb}
+use mathlib.Core.Bool.{cond}
+use mathlib.Core.List.{List, _∷_}
+use lib.Dec.{ltb}
 use lib.ListN.{length, drop}
 use Rattle.percent.specs.Percent.{isHex, hexValue, decoded}
 
@@ -17,10 +17,3 @@ pub record Decodes (s : List ℕ) (i byte next : ℕ) : Type 0 where
   pub first : decoded (drop i s) ≡ byte ∷ decoded (drop next s)
   pub further : i < next
   pub inside : next ≤ length s
-
--- whether two texts are the same
-unfoldable pub same : List ℕ → List ℕ → Bool
-same [] [] = true
-same [] (y ∷ t) = false
-same (x ∷ s) [] = false
-same (x ∷ s) (y ∷ t) = eqb x y && same s t

@@ -5,10 +5,11 @@ ghost use mathlib.Core.Path.{_≡_};
 ghost use mathlib.Core.List.{[]};
 ghost use Prim.Native.Nat.{_≤_, _<_};
 ghost use lib.ListN.{length};
+ghost use Rattle.scan.specs.Same.{same};
 ghost use Rattle.buffer.specs.Answer.{Wrote};
 ghost use Rattle.buffer.specs.Laid.{Lays};
 ghost use Rattle.percent.specs.Percent.{decoded};
-ghost use Rattle.percent.specs.Unit.{Decodes, same};
+ghost use Rattle.percent.specs.Unit.{Decodes};
 
 // A decoded byte, and where the next one begins.
 struct Unit {

@@ -1,1 +1,3 @@
+pub mod Judge
+pub mod Led
 pub mod Record

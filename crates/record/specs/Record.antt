@@ -5,12 +5,12 @@ use mathlib.Core.List.{List, [], _∷_, _++_}
 use mathlib.Core.Option.{Option, none, some}
 use lib.Dec.{eqb, ltb}
 use lib.ListN.{length}
+use Rattle.scan.specs.Same.{same}
 use Rattle.buffer.specs.Answer.{Reason, _when_}
 use Rattle.numbers.specs.Decimal.{decimal}
 use Rattle.percent.specs.declared.set.Set.the-variants.{Name, Column, Attribute}
 use Rattle.percent.specs.Percent.{encoded}
 use Rattle.percent.specs.Sets.{escapes}
-use Rattle.percent.specs.Unit.{same}
 use Rattle.attributes.specs.Written.{column}
 use Rattle.columns.proofs.ColumnsLaws.{rowOf}
 use Rattle.columns.specs.Score.{isScore}
@@ -24,8 +24,11 @@ asked test none = false
 asked test (some s) = test s
 
 -- a score that is neither missing nor a token
+abbrev pub bad : List ℕ → Bool
+bad score = not (eqb (length score) 0 || isScore score)
+
 abbrev pub badScore : Sheet → Bool
-badScore s = not (eqb (length (s .score)) 0 || isScore (s .score))
+badScore s = bad (s .score)
 
 -- the type is exactly `CDS`
 abbrev pub isCDS : Sheet → Bool

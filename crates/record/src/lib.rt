@@ -1,5 +1,17 @@
 // A record written into a lent buffer, from its sheet and the numbers beside it. The caller adds the line feed.
 //
-// What stands: the definitions of the line and of the refusals in document 01's order (specs/Record.antt), and the bytes of strand and
-// phase. The writer itself is not there yet. Assumes nothing.
+// Proved: the answer and the whole buffer are those of specs/, refusals in document 01's order; a refused record changes no byte. The
+// line is measured before its first byte is laid; each byte of the sheet is read a fixed number of times. Assumes nothing.
 mod byte;
+mod judge;
+mod lay;
+mod measure;
+mod write;
+
+pub use write::write_record;
+
+// How far the writer came in the sheet, and in the line. Past the sheet's end: it is not of the form there.
+pub(crate) struct Spot {
+    from: usize,
+    to: usize,
+}

@@ -1,4 +1,5 @@
 pub mod FindLaws
 pub mod MaskLaws
 pub mod PartLaws
+pub mod SameLaws
 mod Unique

@@ -8,6 +8,10 @@ use Rattle.scan.proofs.place.part.Kinds as part-kinds
 use Rattle.scan.proofs.place.part.Reads as part
 use Rattle.scan.proofs.place.text.Kinds as text-kinds
 use Rattle.scan.proofs.place.text.Reads as text
+use Rattle.scan.proofs.same.is_dot.Kinds as is-dot-kinds
+use Rattle.scan.proofs.same.is_dot.Reads as is-dot
+use Rattle.scan.proofs.same.is_same.Kinds as is-same-kinds
+use Rattle.scan.proofs.same.is_same.Reads as is-same
 use Rattle.scan.proofs.word.is_space.Kinds as is-space-kinds
 use Rattle.scan.proofs.word.is_space.Reads as is-space
 use Rattle.scan.proofs.word.find_space.Kinds as find-space-kinds
@@ -25,6 +29,12 @@ part-one κs a x y s t p q = p ∙ sym q
 
 text-one : OneShown 1 text-kinds.ps text-kinds.r text.Post (λ κs x. now x)
 text-one κs a x y s t p q = p ∙ sym q
+
+is-dot-one : OneResult 1 is-dot-kinds.ps is-dot-kinds.r is-dot.Post
+is-dot-one κs a x y s t p q = p ∙ sym q
+
+is-same-one : OneResult 2 is-same-kinds.ps is-same-kinds.r is-same.Post
+is-same-one κs a x y s t p q = p ∙ sym q
 
 is-space-one : OneResult 0 is-space-kinds.ps is-space-kinds.r is-space.Post
 is-space-one κs a x y s t p q = p ∙ sym q

@@ -1,4 +1,5 @@
 pub mod Find
 pub mod Mask
 pub mod Part
+pub mod Same
 pub mod Word

@@ -5,6 +5,7 @@
 // Proved: each answer equals the plain definition of specs/, byte by byte. Assumes nothing.
 mod mask;
 mod place;
+mod same;
 mod word;
 
 ghost use mathlib.Core.Path.{_≡_};
@@ -14,6 +15,8 @@ ghost use Rattle.scan.specs.Find.{found};
 pub use place::Place;
 pub use place::part;
 pub use place::text;
+pub use same::is_dot;
+pub use same::is_same;
 pub use word::find_ink;
 pub use word::find_space;
 pub use word::is_space;

@@ -5,7 +5,11 @@ use Prim.Native.Nat.{ℕ, _≤_, _<_}
 use lib.ListN.{length, drop}
 use Rattle.sheet.specs.Reader.{Taken, no-form, took}
 
--- r is the cursor in s behind what was read, or, where nothing was, a place past the end
-pub data Past {A : Type 0} (s : List ℕ) (r : ℕ) : Taken A → Type 0 where
-  beyond : length s < r → Past s r no-form
-  past : {a : A} {rest : List ℕ} → r ≤ length s → rest ≡ drop r s → Past s r (took a rest)
+-- P holds of what was read, and r is the cursor in s behind it; or, where nothing was read, r is a place past the end
+pub data Passes {A : Type 0} (P : A → Type 0) (s : List ℕ) (r : ℕ) : Taken A → Type 0 where
+  beyond : length s < r → Passes P s r no-form
+  past : {a : A} {rest : List ℕ} → r ≤ length s → rest ≡ drop r s → P a → Passes P s r (took a rest)
+
+-- so, whatever was read
+abbrev pub Past : {A : Type 0} → List ℕ → ℕ → Taken A → Type 0
+Past s r m = Passes (λ a. Unit {0}) s r m

@@ -7,6 +7,7 @@ use mathlib.Core.List.{List, [], _∷_, flatMap}
 use mathlib.Core.Option.{Option, none, some}
 use lib.ListN.{length}
 use Rattle.lists.specs.Bytes.{Every}
+use Rattle.scan.specs.Same.{isDot}
 use Rattle.buffer.specs.Answer.{Reason, first}
 use Rattle.columns.specs.declared.bounds.Bounds.{Bounds}
 use Rattle.columns.specs.declared.bounds.Indexed.the-variants as indexing
@@ -18,7 +19,7 @@ use Rattle.columns.specs.declared.strand.StrandRead.the-variants as strands
 use Rattle.columns.specs.declared.phase.Phase.{Phase}
 use Rattle.columns.specs.declared.phase.PhaseRead.the-variants as phases
 use Rattle.columns.specs.Columns.{ends, isRecord, indexed, columnPlace, columnText}
-use Rattle.columns.specs.Fields.{isDot, positionText, strandText, phaseText}
+use Rattle.columns.specs.Fields.{positionText, strandText, phaseText}
 use Rattle.percent.proofs.PercentLaws.{length-decoded}
 use Rattle.attributes.specs.Attributes.{Attribute, attributes, walk}
 use Rattle.sheet.specs.Sheet.{attribute-of, sheet-of}

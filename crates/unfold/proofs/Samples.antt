@@ -3,13 +3,14 @@ use Prim.Native.Nat.{ℕ}
 use mathlib.Core.Path.{_≡_, refl}
 use mathlib.Core.List.{List, [], _∷_, _++_, flatMap}
 use lib.ListN.{replicate}
+use Rattle.scan.specs.Same.{isDot}
 use Rattle.scan.specs.Find.{index, seek}
 use Rattle.numbers.specs.Number.{allDigits, someDigits, value-after, numeral}
 use Rattle.percent.specs.Percent.{isHex, hexValue, decoded}
 use Rattle.columns.specs.declared.strand.Strand.the-variants as strand
 use Rattle.columns.specs.declared.phase.Phase.the-variants as phase
 use Rattle.columns.specs.Columns.{end, columnPlace}
-use Rattle.columns.specs.Fields.{isDot, positionText, strandText, phaseText}
+use Rattle.columns.specs.Fields.{positionText, strandText, phaseText}
 use Rattle.columns.specs.Score.{sansSign, sansMinus, isExponent, isFraction, isScore}
 use Rattle.attributes.specs.Pieces.{pieces-after}
 use Rattle.attributes.specs.Attributes as column9
@@ -34,5 +35,5 @@ samples :
     × (judged (texts ++ (positions ++ (signs ++ (97 ∷ 61 ∷ 49 ∷ 59 ∷ 98 ∷ [])))) ≡ Refused 5)
     × (judged (replicate 8 9) ≡ Refused 2)
     × (judged (97 ∷ replicate 7 9) ≡ Refused 1)
-unfolding index seek allDigits someDigits value-after numeral isHex hexValue decoded end columnPlace isDot positionText strandText phaseText sansSign sansMinus isExponent isFraction isScore pieces-after column9.tag-after column9.value-after column9.isDot column9.walk-from column9.attribute column9.attributes number-of section-of counted-of attribute-of sheet-of scoreOf unfolded numbers-of judged-by flatMap
+unfolding index seek allDigits someDigits value-after numeral isHex hexValue decoded end columnPlace isDot positionText strandText phaseText sansSign sansMinus isExponent isFraction isScore pieces-after column9.tag-after column9.value-after column9.walk-from column9.attribute column9.attributes number-of section-of counted-of attribute-of sheet-of scoreOf unfolded numbers-of judged-by flatMap
 samples = (refl, refl, refl, refl)

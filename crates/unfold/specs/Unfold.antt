@@ -7,6 +7,7 @@ use mathlib.Core.List.{List, [], _∷_, _++_}
 use mathlib.Core.Option.{Option, none, some}
 use lib.Dec.{ltb}
 use lib.ListN.{length, drop}
+use Rattle.scan.specs.Same.{isDot}
 use Rattle.buffer.specs.Answer.{Reason, _when_, first}
 use Rattle.percent.specs.Percent.{decoded}
 use Rattle.columns.specs.declared.column.Column.the-variants as column
@@ -21,7 +22,7 @@ use Rattle.columns.specs.declared.phase.Phase.the-variants as phase
 use Rattle.columns.specs.declared.phase.PhaseRead.{PhaseRead}
 use Rattle.columns.specs.declared.phase.PhaseRead.the-variants as phaseRead
 use Rattle.columns.specs.Columns.{isRecord, columnText}
-use Rattle.columns.specs.Fields.{isDot, positionText, strandText, phaseText}
+use Rattle.columns.specs.Fields.{positionText, strandText, phaseText}
 use Rattle.columns.specs.Score.{isScore}
 use Rattle.attributes.specs.Attributes.{Attribute, attributes, walk}
 use Rattle.sheet.specs.Sheet.{Sheet, sheet-of}

@@ -131,7 +131,7 @@ fn fields(line: &[u8], bounds: Bounds) -> Measured
         return Measured::Refused(2);
     };
     let token = super::texts::column(line, b.end_end, b.score_end);
-    if !(super::texts::is_dot(token) | columns::is_score(token)) {
+    if !(scan::is_dot(token) | columns::is_score(token)) {
         return Measured::Refused(17);
     }
     let strand_text = super::texts::column(line, b.score_end, b.strand_end);

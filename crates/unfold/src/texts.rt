@@ -3,7 +3,6 @@ ghost use mathlib.Core.Path.{_≡_};
 ghost use Prim.Native.Nat.{_-_, _≤_};
 ghost use lib.ListN.{length};
 ghost use Rattle.scan.specs.Part.{part};
-ghost use Rattle.columns.specs.Fields.{isDot};
 ghost use Rattle.unfold.specs.Unfold.{scoreOf};
 
 // What stands from `from` on, before the tab that `past` is one past.
@@ -17,21 +16,12 @@ pub(crate) fn column<'a>(line: &'a [u8], from: usize, past: usize) -> &'a [u8]
     scan::part(line, from, past - 1)
 }
 
-pub(crate) fn is_dot(s: &[u8]) -> bool
-    ensures { λ r. ⌜ r ≡ isDot (now (s .entry)) ⌝ }
-{
-    if s.len() == 1 {
-        return s[0] == b'.';
-    }
-    false
-}
-
 // The score as it goes on the sheet: no text for `.`, else the raw token.
 pub(crate) fn score<'a>(token: &'a [u8]) -> &'a [u8]
     ensures text { λ r. ⌜ now r ≡ scoreOf (now (token .entry)) ⌝ }
     ensures short { λ r. ⌜ length (now r) ≤ length (now (token .entry)) ⌝ }
 {
-    if is_dot(token) {
+    if scan::is_dot(token) {
         return scan::part(token, 0, 0);
     }
     token

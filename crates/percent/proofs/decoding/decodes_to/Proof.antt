@@ -3,10 +3,10 @@ use Prim.Native.Nat.{ℕ, _+_, _-_, _≤_}
 use native.Mathlib.Omega.{arith}
 use mathlib.Core.Path.{_≡_, refl, sym, _∙_}
 use lib.ListN.{length, drop}
+use Rattle.scan.specs.Same.{same}
 use Rattle.percent.specs.Percent.{decoded}
-use Rattle.percent.specs.Unit.{same}
 use Rattle.percent.proofs.CursorLaws.{decoded-end}
-use Rattle.percent.proofs.SameLaws.{same-on, same-off, same-short, same-end}
+use Rattle.scan.proofs.SameLaws.{same-on, same-off, same-short, same-end}
 use Rattle.percent.proofs.decoding.decodes_to.Statement.{statement}
 use Rattle.percent.proofs.decoding.decodes_to.Tie as tie
 

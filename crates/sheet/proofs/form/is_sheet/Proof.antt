@@ -21,8 +21,8 @@ returns c =
     let three = four .before in
     let two = three .before in
     let one = two .before in
-    past-ended _ _
-    (past-sheet (one .past-section .ensures .0) (two .past-section2 .ensures .0) (three .past-section3 .ensures .0) (four .past-section4 .ensures .0)
+    past-ended {P = λ s. Unit {0}} _ _
+    (past-sheet {L = λ l. Unit {0}} (λ n o t c l u v w x y. tt) (one .past-section .ensures .0) (two .past-section2 .ensures .0) (three .past-section3 .ensures .0) (four .past-section4 .ensures .0)
     (past-counted _ _ (hands d) (c .past-attributes .ensures)))
 
 returns-2 : tie.Need-returns-2
@@ -33,8 +33,8 @@ returns-2 c =
     let two = three .before in
     let one = two .before in
     let s = one .before .before .args .sheet .now in
-    past-no-end s (length s + 1)
-    (past-sheet (one .past-section .ensures .0) (two .past-section2 .ensures .0) (three .past-section3 .ensures .0) (four .past-section4 .ensures .0)
+    past-no-end {P = λ s. Unit {0}} s (length s + 1)
+    (past-sheet {L = λ l. Unit {0}} (λ n o t c l u v w x y. tt) (one .past-section .ensures .0) (two .past-section2 .ensures .0) (three .past-section3 .ensures .0) (four .past-section4 .ensures .0)
     (past-uncounted s (four .past-section4 .result) (count-meets _ _ (d .count-at .ensures) (c .enum-told .given .1)) (omega arith))) (omega arith)
 
 pub is-sheet-spec : {M : Type 1} → statement M

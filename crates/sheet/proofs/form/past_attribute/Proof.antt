@@ -16,14 +16,14 @@ returns : tie.Need-returns
 returns c =
     let d = c .before .before in
     let tag = d .before .before .before in
-    (past-attribute _ (tag .before .before .args .at) (tag .past-section .ensures .0) (past-zero _ _ (hands d) (c .if1 .taken) (omega arith)), λ l. omega arith)
+    (past-attribute _ (tag .before .before .args .at) {Q = λ vs. Unit {0}} (λ t vs x y. tt) (tag .past-section .ensures .0) (past-zero _ _ (hands d) (c .if1 .taken) (omega arith)), λ l. omega arith)
 
 returns-2 : tie.Need-returns-2
 returns-2 c =
     let d = c .before .before .before in
     let tag = d .before .before .before in
     let h = hands d in (
-      past-attribute _ (tag .before .before .args .at) (tag .past-section .ensures .0) (past-some _ _ h (c .before .if1 .left) (c .past-values .ensures .0)),
+      past-attribute _ (tag .before .before .args .at) {Q = λ vs. Unit {0}} (λ t vs x y. tt) (tag .past-section .ensures .0) (past-some _ _ h (c .before .if1 .left) (c .past-values .ensures .0)),
       λ l. omega (arith, tag .past-section .ensures .1 l),
     )
 
@@ -31,7 +31,7 @@ returns-3 : tie.Need-returns-3
 returns-3 c =
     let d = c .before .before in
     let tag = d .before in (
-      past-attribute _ (tag .before .before .args .at) (tag .past-section .ensures .0)
+      past-attribute _ (tag .before .before .args .at) {Q = λ vs. Unit {0}} (λ t vs x y. tt) (tag .past-section .ensures .0)
           (past-cut _ (tag .past-section .result) (count-meets _ _ (d .count-at .ensures) (c .enum-told .given .1)) (omega arith)),
       λ l. omega arith,
     )

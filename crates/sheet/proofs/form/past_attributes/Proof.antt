@@ -31,10 +31,10 @@ loop-again : tie.Need-loop-again Inv-loop μ-loop
 loop-again c =
     let p = c .before in
     let l = p .before .before .loop in
-    (c .if1 .left, λ r q. l .inv .1 r (past-next read-attribute (l .left) (l .left - 1) (l .at) (omega arith) (p .past-attribute .ensures .0) (c .if1 .left) q))
+    (c .if1 .left, λ r q. l .inv .1 r (past-next read-attribute (l .left) (l .left - 1) (l .at) (omega arith) (λ a more x y. tt) (p .past-attribute .ensures .0) (c .if1 .left) q))
 
 returns-2 : tie.Need-returns-2 Inv-loop μ-loop
-returns-2 c = let l = c .before .loop in l .inv .1 _ (past-all read-attribute (l .left) (l .at) (omega arith) (l .inv .0))
+returns-2 c = let l = c .before .loop in l .inv .1 _ (past-all read-attribute (l .left) (l .at) (omega arith) (l .inv .0) tt)
 
 pub past-attributes-spec : {M : Type 1} → statement M
 past-attributes-spec =

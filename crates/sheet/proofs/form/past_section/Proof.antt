@@ -11,7 +11,7 @@ returns : tie.Need-returns
 returns c =
     let d = c .before in
     let h = section-meets _ _ (d .before .before .section-at .ensures) (d .place .given .1) in
-    (rw (h .read) (past (h .inside) refl), λ l. omega arith)
+    (rw (h .read) (past (h .inside) refl tt), λ l. omega arith)
 
 returns-2 : tie.Need-returns-2
 returns-2 c =

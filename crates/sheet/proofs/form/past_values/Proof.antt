@@ -36,10 +36,10 @@ loop-again c =
     let p = c .before in
     let l = p .before .before .loop in
     let h = further p in
-    (omega arith, c .if1 .left, λ r q. l .inv .2 r (past-next section (l .left) (l .left - 1) (l .at) (omega arith) (p .past-section .ensures .0) (c .if1 .left) q))
+    (omega arith, c .if1 .left, λ r q. l .inv .2 r (past-next section (l .left) (l .left - 1) (l .at) (omega arith) (λ a more x y. tt) (p .past-section .ensures .0) (c .if1 .left) q))
 
 returns-2 : tie.Need-returns-2 Inv-loop μ-loop
-returns-2 c = let l = c .before .loop in (l .inv .2 _ (past-all section (l .left) (l .at) (omega arith) (l .inv .1)), l .inv .0)
+returns-2 c = let l = c .before .loop in (l .inv .2 _ (past-all section (l .left) (l .at) (omega arith) (l .inv .1) tt), l .inv .0)
 
 pub past-values-spec : {M : Type 1} → statement M
 past-values-spec =

@@ -1,4 +1,4 @@
--- Laws of `same`. Assumes nothing.
+-- Laws of `same` and `isDot`. Assumes nothing.
 use Prim.Native.Nat.{ℕ, suc, _+_, _≤_, _<_}
 use native.Mathlib.Omega.{arith}
 use native.Mathlib.Nat.{eq-or-lt-of-le}
@@ -11,8 +11,11 @@ use borrow.Author.Tests.{eq-eqb, ne-eqb, eqb-true}
 use lib.ListN.{length, drop, getD, drop-of-length-le}
 use lib.Seq.{drop-cons}
 use Rattle.lists.proofs.BoolLaws.{and-left, and-right}
-use Rattle.percent.specs.Unit.{same}
-use Rattle.percent.proofs.CursorLaws.{cons-at}
+use Rattle.scan.specs.Same.{same, isDot}
+
+-- one byte at a cursor
+pub cons-at : (s : List ℕ) (i j : ℕ) → i < length s → suc i ≡ j → drop i s ≡ getD s i 0 ∷ drop j s
+cons-at s i j h e = rw (← e) (drop-cons s i 0 h)
 
 -- it is equality
 pub same-refl : (s : List ℕ) → same s s ≡ true
@@ -48,3 +51,16 @@ same-end t j h =
     ⊎-elim (λ e. rw (drop-of-length-le t {i = j} (omega arith), eq-eqb j (length t) e))
     (λ l. rw (cons-at t j (j + 1) l (omega arith), ne-eqb j (length t) (omega arith)))
     (eq-or-lt-of-le h)
+
+-- `.` is judged by the one byte
+pub dot-one : (s : List ℕ) → length s ≡ 1 → eqb (getD s 0 0) 46 ≡ isDot s
+unfolding isDot
+dot-one [] h = absurd (omega arith)
+dot-one (x ∷ []) h = refl
+dot-one (x ∷ y ∷ s) h = absurd (omega arith)
+
+pub dot-other : (s : List ℕ) → (length s ≡ 1 → ⊥) → false ≡ isDot s
+unfolding isDot
+dot-other [] h = refl
+dot-other (x ∷ []) h = absurd (h refl)
+dot-other (x ∷ y ∷ s) h = refl

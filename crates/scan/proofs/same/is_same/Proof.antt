@@ -4,11 +4,10 @@ use native.Mathlib.Omega.{arith}
 use mathlib.Core.Path.{_≡_, refl, sym, _∙_}
 use mathlib.Core.List.{_∷_}
 use lib.ListN.{length, drop, getD, drop-of-length-le}
-use Rattle.percent.specs.Unit.{same}
-use Rattle.percent.proofs.CursorLaws.{cons-at}
-use Rattle.percent.proofs.SameLaws.{same-on, same-off, same-short, same-end}
-use Rattle.marks.proofs.judge.is_same.Statement.{statement}
-use Rattle.marks.proofs.judge.is_same.Tie as tie
+use Rattle.scan.specs.Same.{same}
+use Rattle.scan.proofs.SameLaws.{cons-at, same-on, same-off, same-short, same-end}
+use Rattle.scan.proofs.same.is_same.Statement.{statement}
+use Rattle.scan.proofs.same.is_same.Tie as tie
 
 abbrev Inv-loop : tie.InvT-loop
 Inv-loop s t i₀ i = (i ≤ length s) × (i ≤ length t) × (same s t ≡ same (drop i s) (drop i t))

@@ -1,0 +1,66 @@
+-- An item of a GFF3 text: a record, a directive or a comment, as it is handed to its writer; the line that the writer makes of it, and
+-- what it is for a line to read back as it. Document 01, "Writing" and "The field sheet". Assumes nothing: these are definitions.
+use Prim.Native.Nat.{ℕ, _≤_}
+use mathlib.Core.Path.{_≡_}
+use mathlib.Core.List.{List, _++_}
+use lib.ListN.{length, drop}
+use Rattle.lists.specs.Bytes.{Bytes}
+use Rattle.buffer.specs.Answer.{Reason, first}
+use Rattle.numbers.specs.Number.{most64}
+use Rattle.lines.specs.Kind.{kind}
+use Rattle.lines.specs.declared.kind.Kind.the-variants.{Directive, Comment, Record}
+use Rattle.lines.proofs.KindLaws.{ReadsComment, ReadsDirective}
+use Rattle.marks.specs.declared.directive.Value.{Value}
+use Rattle.marks.specs.Comment.{comment-reasons, comment-line}
+use Rattle.marks.specs.Directive.{directive-reasons, directive-line}
+use Rattle.marks.proofs.RoundTrip.{value-text, Sized, Back}
+use Rattle.record.specs.Record.{record-reasons, record-line}
+use Rattle.columns.specs.Fields.{strandNumber, phaseNumber}
+use Rattle.unfold.specs.Unfold.{Unfolds}
+use Rattle.unfold.specs.declared.lay.Unfolded.{Unfolded}
+use Rattle.unfold.specs.declared.lay.Unfolded.the-variants.{Done}
+use Rattle.unfold.specs.declared.judging.Numbers.{Numbers}
+
+-- the line is a record and, given room, unfolds into this sheet and these numbers
+pub record ReadsRecord (line sheet : List ℕ) (start end strand phase : ℕ) : Type 0 where
+  pub is-record : kind line ≡ Record
+  pub given-room : (d d' : List ℕ) (r : Unfolded) → length sheet ≤ length d → Unfolds line d d' r
+      → (n : Numbers) × (r ≡ Done n (length sheet)) × (d' ≡ sheet ++ drop (length sheet) d)
+      × (n .start ≡ start) × (n .end ≡ end) × (strandNumber (n .strand) ≡ strand) × (phaseNumber (n .phase) ≡ phase)
+
+-- a record: its field sheet, and start, end, strand and phase beside it as numbers; a directive: its key, its value, and the two texts that
+-- the value may use (a string; a region's name; a build's source and name); a comment: its text
+pub data Item : Type 0 where
+  feature : (sheet : List ℕ) → (start end strand phase : ℕ) → Item
+  directive : (key : List ℕ) → Value → (one two : List ℕ) → Item
+  comment : (text : List ℕ) → Item
+
+-- the line that the item's writer makes of it, without the line feed
+unfoldable pub line-of : Item → List ℕ
+line-of (feature sheet start end strand phase) = record-line sheet start end strand phase
+line-of (directive key value one two) = directive-line key value one two
+line-of (comment text) = comment-line text
+
+-- why the writer refuses it, in order
+unfoldable pub reasons-of : Item → List Reason
+reasons-of (feature sheet start end strand phase) = record-reasons sheet start end strand phase
+reasons-of (directive key value one two) = directive-reasons key value one two
+reasons-of (comment text) = comment-reasons text
+
+-- what the types of the writer's parameters say: texts are bytes, positions have 64 bits, the parts of a version 32
+unfoldable pub Typed : Item → Type 0
+Typed (feature sheet start end strand phase) = Bytes sheet × (start ≤ most64) × (end ≤ most64)
+Typed (directive key value one two) = Bytes key × Sized value × Bytes one × Bytes two
+Typed (comment text) = Bytes text
+
+-- the writer accepts the item: no reason to refuse it holds
+abbrev pub Accepted : Item → Type 0
+Accepted i = Typed i × (first (reasons-of i) ≡ 0)
+
+-- "An item reads back when its line has the item's kind and, given room, the same sheet and numbers (record), text (comment), or key and
+-- value text (directive; a typed value also comes back from its own reader)." By what `kind_of`, `unfold`, `comment_of`, `directive_of` and
+-- the parsers of the three typed values answer.
+unfoldable pub ReadsBack : Item → List ℕ → Type 0
+ReadsBack (feature sheet start end strand phase) line = ReadsRecord line sheet start end strand phase
+ReadsBack (directive key value one two) line = (kind line ≡ Directive) × ReadsDirective line key (value-text value one two) × Back value one two
+ReadsBack (comment text) line = (kind line ≡ Comment) × ReadsComment line text

@@ -1,0 +1,4 @@
+pub mod Damage
+pub mod Demand
+pub mod Item
+pub mod Survivors

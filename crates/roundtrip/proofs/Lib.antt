@@ -1,0 +1,3 @@
+pub mod AcceptedLaws
+pub mod LineLaws
+pub mod RecordBack
