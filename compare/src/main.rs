@@ -20,6 +20,7 @@ mod marks;
 mod numbers;
 mod options;
 mod ours;
+mod records;
 mod report;
 mod score;
 mod sheet;
@@ -58,7 +59,9 @@ macro_rules! groups {
     };
 }
 
-static GROUPS: [Group; 7] = groups![lines, columns, attributes, directives, coding, unfolding, marks];
+static GROUPS: [Group; 8] = groups![
+    lines, columns, attributes, directives, coding, unfolding, records, marks
+];
 
 fn main() -> ExitCode {
     let names: Vec<&str> = GROUPS.iter().map(|group| group.name).collect();

@@ -100,7 +100,16 @@ unsafe extern "C" {
     fn gff3_position(text: *const u8, text_len: usize) -> Number;
     fn gff3_judge(line: *const u8, line_len: usize) -> Unfolded;
     fn gff3_unfold(line: *const u8, line_len: usize, sheet: *mut u8, sheet_len: usize) -> Unfolded;
-    fn gff3_write_comment(text: *const u8, text_len: usize, out: *mut u8, out_len: usize) -> Written;
+    fn gff3_write_record(
+        sheet: *const u8,
+        sheet_len: usize,
+        start: u64,
+        end: u64,
+        strand: u32,
+        phase: u32,
+        out: *mut u8,
+        out_len: usize,
+    ) -> Written;
     fn gff3_write_directive(
         key: *const u8,
         key_len: usize,
@@ -112,6 +121,7 @@ unsafe extern "C" {
         out: *mut u8,
         out_len: usize,
     ) -> Written;
+    fn gff3_write_comment(text: *const u8, text_len: usize, out: *mut u8, out_len: usize) -> Written;
 }
 
 /// Makes each function safe: the header asks for nothing but that a pointer has its length of bytes.
@@ -164,6 +174,21 @@ pub fn encode(set: u32, text: &[u8], out: &mut [u8]) -> Written {
 
 pub fn unfold(line: &[u8], sheet: &mut [u8]) -> Unfolded {
     unsafe { gff3_unfold(pointer(line), line.len(), pointer_mut(sheet), sheet.len()) }
+}
+
+pub fn write_record(sheet: &[u8], start: u64, end: u64, strand: u32, phase: u32, out: &mut [u8]) -> Written {
+    unsafe {
+        gff3_write_record(
+            pointer(sheet),
+            sheet.len(),
+            start,
+            end,
+            strand,
+            phase,
+            pointer_mut(out),
+            out.len(),
+        )
+    }
 }
 
 pub fn write_comment(text: &[u8], out: &mut [u8]) -> Written {

@@ -54,8 +54,9 @@ calls! {
     Position = "gff3_position",
     Judge = "gff3_judge",
     Unfold = "gff3_unfold",
-    WriteComment = "gff3_write_comment",
-    WriteDirective = "gff3_write_directive"
+    WriteRecord = "gff3_write_record",
+    WriteDirective = "gff3_write_directive",
+    WriteComment = "gff3_write_comment"
 }
 
 /// Makes one call, and compares its answer.

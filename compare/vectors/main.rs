@@ -33,6 +33,7 @@ fn main() {
     reading::attributes(&mut list);
     reading::directives(&mut list);
     writing::unfolding(&mut list);
+    writing::records(&mut list);
     writing::comments(&mut list);
     writing::directives(&mut list);
 

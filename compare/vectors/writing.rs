@@ -3,7 +3,7 @@
 use oracle::io::api::{
     attributes::{self, Value},
     record,
-    writing::{self, Typed},
+    writing::{self, Fields, Typed},
 };
 
 use crate::{
@@ -83,7 +83,7 @@ pub fn unfolding(list: &mut List) {
             Err(number) => {
                 list.case(&format!("J {}", hex(line)), &format!("! {number} "));
 
-                for room in [0, 5, ROOM] {
+                for room in [0, 5, 60] {
                     list.case(&format!("U {} {room}", hex(line)), &refused(number, room));
                 }
             }
@@ -124,6 +124,127 @@ fn unfolded(line: &[u8]) -> Result<(String, Vec<u8>), u8> {
     Ok((format!("{start} {end} {strand} {phase} "), sheet.bytes()))
 }
 
+/// What the Rust writes of a sheet; then sheets and numbers that are refused, each reason alone and before those that come later.
+pub fn records(list: &mut List) {
+    list.title("s SHEET START END STRAND PHASE ROOM: a record");
+    let mut dice = Dice::new(12);
+
+    for i in 0..256 {
+        let byte = [i as u8];
+        let sheet = Sheet {
+            name: byte.to_vec(),
+            source: byte.to_vec(),
+            ty: byte.to_vec(),
+            score: Vec::new(),
+            attributes: vec![(byte.to_vec(), vec![byte.to_vec()])],
+        };
+        record_case(list, &sheet, [1, 1, 0, 3], &[2]);
+    }
+
+    for i in 0..60 {
+        let mut text = |len: usize| dice.text(len, b"abC %;=,&\t#\n\xff");
+        let sheet = Sheet {
+            name: text(i % 7),
+            source: text(i % 5),
+            ty: text(i % 3),
+            score: Vec::new(),
+            attributes: (0..i % 5)
+                .map(|n| (text(n), (0..1 + (i + n) % 3).map(|m| text(m + n)).collect()))
+                .collect(),
+        };
+        let numbers = [10_u64.pow(i as u32 % 20), u64::MAX >> i, i as u64 % 4, i as u64 / 4 % 4];
+        record_case(list, &sheet, numbers, &[0, 1, 2]);
+    }
+
+    let plain = Sheet {
+        name: b"a".to_vec(),
+        ty: b"CDS".to_vec(),
+        score: b"x".to_vec(),
+        attributes: vec![(b"b".to_vec(), vec![Vec::new()])],
+        ..Sheet::default()
+    };
+    let scored = Sheet {
+        score: b"-1.5e+10".to_vec(),
+        ..plain.clone()
+    };
+    let refusals: [(u8, &Sheet, [u64; 4]); 9] = [
+        (2, &plain, [0, 0, 4, 4]),
+        (2, &plain, [0, 1, 4, 4]),
+        (2, &plain, [1, 0, 4, 4]),
+        (17, &plain, [1, 1, 4, 4]),
+        (3, &scored, [1, 1, 4, 4]),
+        (3, &scored, [1, 1, 4_294_967_295, 3]),
+        (4, &scored, [1, 1, 3, 4]),
+        (4, &scored, [1, 1, 0, 4_294_967_295]),
+        (18, &scored, [1, 1, 3, 3]),
+    ];
+
+    for (number, sheet, numbers) in refusals {
+        for room in [0, 1, 60] {
+            list.case(&sheet_case(&sheet.bytes(), numbers, room), &refused(number, room));
+        }
+    }
+
+    // Each cut of a sheet, a byte more, and each of its counts put wrong.
+    let good = plain.bytes();
+    let mut bad: Vec<Vec<u8>> = (0..good.len()).map(|len| good[..len].to_vec()).collect();
+    bad.push([&good[..], b"\x00"].concat());
+
+    for at in [0, 5, 9, 16, 21, 25, 30, 34] {
+        for n in [0, 2, 255] {
+            for byte in 0..4 {
+                let mut bytes = good.clone();
+                bytes[at + byte] = n;
+                bad.push(bytes);
+            }
+        }
+    }
+
+    for bytes in bad.iter().filter(|bytes| Sheet::read(bytes).is_none()) {
+        list.case(&sheet_case(bytes, [0, 0, 4, 4], 60), &refused(23, 60));
+    }
+}
+
+/// A record that is not refused, in rooms of this many bytes, and of those it needs with as many more or fewer.
+fn record_case(list: &mut List, sheet: &Sheet, numbers: [u64; 4], rooms: &[usize]) {
+    let values: Vec<Vec<&[u8]>> = sheet
+        .attributes
+        .iter()
+        .map(|(_, values)| values.iter().map(Vec::as_slice).collect())
+        .collect();
+    let attributes: Vec<(&[u8], &[&[u8]])> = sheet
+        .attributes
+        .iter()
+        .zip(&values)
+        .map(|((tag, _), values)| (&tag[..], &values[..]))
+        .collect();
+    let [start, end, strand, phase] = numbers;
+    let line = writing::write_record(&Fields {
+        reference_sequence_name: &sheet.name,
+        source: &sheet.source,
+        ty: &sheet.ty,
+        start,
+        end,
+        score: None,
+        strand: strand as u8,
+        phase: phase as u8,
+        attributes: &attributes,
+    })
+    .expect("the Rust writes it");
+
+    for &room in rooms {
+        for room in [room, line.len() + room, line.len().saturating_sub(room)] {
+            if room <= ROOM {
+                list.case(&sheet_case(&sheet.bytes(), numbers, room), &written(&line, room));
+            }
+        }
+    }
+}
+
+fn sheet_case(sheet: &[u8], [start, end, strand, phase]: [u64; 4], room: usize) -> String {
+    format!("s {} {start} {end} {strand} {phase} {room}", hex(sheet))
+}
+
 pub fn comments(list: &mut List) {
     list.title("c TEXT ROOM: a comment");
     let mut dice = Dice::new(10);
@@ -147,7 +268,7 @@ pub fn comments(list: &mut List) {
     }
 
     for text in ["#", "##", "#a", "\n", "\r", "a\nb", "a\r", "#\n"] {
-        for room in [0, text.len(), ROOM] {
+        for room in [0, text.len(), 60] {
             list.case(&format!("c {} {room}", hex(text.as_bytes())), &refused(20, room));
         }
     }

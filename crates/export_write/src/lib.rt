@@ -1,4 +1,4 @@
-// The writers, as C functions: a comment, a directive.
+// The writers, as C functions: a record, a directive, a comment.
 //
 // Proved: each answer, and the whole buffer, are the library's definitions of them. Every function takes any bytes and numbers. Assumes
 // nothing.
@@ -7,6 +7,7 @@ use directives::GffVersion;
 use directives::Part;
 use marks::Value;
 ghost use mathlib.Core.Path.{_≡_};
+ghost use Rattle.record.specs.Record.{record-reasons, record-line};
 ghost use Rattle.marks.specs.Comment.{comment-reasons, comment-line};
 ghost use Rattle.marks.specs.Directive.{directive-reasons, directive-line};
 ghost use Rattle.answers.specs.Answers.{Writes};
@@ -53,6 +54,21 @@ fn value_in(value: Gff3DirectiveValue) -> Value
         4 => Value::Build,
         _ => Value::None,
     }
+}
+
+// The line of a sheet and the numbers beside it. Refusals 24, 23, 2, 17, 3, 4, 18, 22.
+#[no_mangle]
+pub extern "C" fn gff3_write_record(
+    sheet: &[u8],
+    start: u64,
+    end: u64,
+    strand: u32,
+    phase: u32,
+    out: &mut [u8],
+) -> Gff3Written
+    ensures { λ r. ⌜ Writes (record-reasons (now (sheet .entry)) start end strand phase) (record-line (now (sheet .entry)) start end strand phase) (now (out .entry)) (now (out .exit)) r ⌝ }
+{
+    answers::written_of(record::write_record(sheet, start, end, strand, phase, out))
 }
 
 // `#` and the text. Refusals 24, 20, 22.

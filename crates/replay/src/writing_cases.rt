@@ -104,3 +104,18 @@ pub(crate) fn directive(line: &[u8], key: &[u8], first: &[u8]) {
     );
     show::written(answer, scan::part(&room, 0, size))
 }
+
+// s SHEET START END STRAND PHASE ROOM
+pub(crate) fn record_line(line: &[u8], sheet: &[u8]) {
+    let mut room = [170u8; ROOM];
+    let size = words::number(line, 6) as usize;
+    let answer = record::write_record(
+        sheet,
+        words::number(line, 2),
+        words::number(line, 3),
+        short(words::number(line, 4)),
+        short(words::number(line, 5)),
+        words::front(&mut room, size),
+    );
+    show::written(answer, scan::part(&room, 0, size))
+}
