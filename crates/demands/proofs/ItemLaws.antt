@@ -1,5 +1,5 @@
--- Laws of items: what it means that a writer accepted one; and that the line of such an item is one line, from which it reads back. For
--- a record these two are taken as given here.
+-- Laws of items: what it means that a writer accepted one; and that the line of such an item is one line, from which it reads back.
+-- Assumes nothing.
 use Prim.Native.Nat.{ℕ, zero, suc, _≤_}
 use native.Mathlib.Omega.{arith}
 use mathlib.Core.Path.{_≡_, refl, ap, _∙_}
@@ -7,15 +7,13 @@ use mathlib.Core.Bool.{Bool, true, false}
 use mathlib.Core.List.{List, _++_}
 use lib.ListN.{length, drop}
 use borrow.Author.Tests.{le-ltb}
-use Rattle.lists.specs.Bytes.{Bytes}
 use Rattle.buffer.specs.declared.Written.{Written}
 use Rattle.buffer.specs.declared.Written.the-variants.{Done, Refused, NoRoom}
 use Rattle.buffer.specs.Answer.{first, number, answer, contents, Wrote}
-use Rattle.numbers.specs.Number.{most64}
 use Rattle.lines.specs.Lines.{OneLine}
 use Rattle.marks.proofs.RoundTrip.{comment-kind, comment-back, comment-one, directive-kind, directive-back, directive-one, typed-back}
-use Rattle.record.specs.Record.{record-reasons, record-line}
-use Rattle.demands.specs.Item.{Item, feature, directive, comment, line-of, reasons-of, Typed, Accepted, ReadsBack, ReadsRecord}
+use Rattle.roundtrip.proofs.RecordBack.{record-one, record-back}
+use Rattle.demands.specs.Item.{Item, feature, directive, comment, line-of, reasons-of, Typed, Accepted, ReadsBack}
 
 -- ── what a writer accepted ────────────────────────────────────────────────────────────────────
 
@@ -44,20 +42,15 @@ accepted-done i d d' r e room w = w .result ∙ rw (e, le-ltb _ _ room)
 
 -- ── its line ──────────────────────────────────────────────────────────────────────────────────
 
-module _
-    (record-one : (s : List ℕ) (start end strand phase : ℕ) → Bytes s → start ≤ most64 → end ≤ most64
-    → first (record-reasons s start end strand phase) ≡ 0 → OneLine (record-line s start end strand phase))
-    (record-back : (s : List ℕ) (start end strand phase : ℕ) → Bytes s → start ≤ most64 → end ≤ most64
-    → first (record-reasons s start end strand phase) ≡ 0 → ReadsRecord (record-line s start end strand phase) s start end strand phase) where
-  pub item-one : (i : Item) → Accepted i → OneLine (line-of i)
-  unfolding line-of reasons-of Typed
-  item-one (comment text) (t, e) = comment-one text e
-  item-one (directive key value one two) (t, e) = directive-one key value one two e
-  item-one (feature sheet start end strand phase) (t, e) = record-one sheet start end strand phase (t .0) (t .1) (t .2) e
+pub item-one : (i : Item) → Accepted i → OneLine (line-of i)
+unfolding line-of reasons-of Typed
+item-one (comment text) (t, e) = comment-one text e
+item-one (directive key value one two) (t, e) = directive-one key value one two e
+item-one (feature sheet start end strand phase) (t, e) = record-one sheet start end strand phase (t .0) (t .1) (t .2) e
 
-  pub item-back : (i : Item) → Accepted i → ReadsBack i (line-of i)
-  unfolding line-of reasons-of Typed ReadsBack
-  item-back (comment text) (t, e) = (comment-kind text e, comment-back text e)
-  item-back (directive key value one two) (t, e) =
-      (directive-kind key value one two e, directive-back key value one two e, typed-back key value one two e (t .1))
-  item-back (feature sheet start end strand phase) (t, e) = record-back sheet start end strand phase (t .0) (t .1) (t .2) e
+pub item-back : (i : Item) → Accepted i → ReadsBack i (line-of i)
+unfolding line-of reasons-of Typed ReadsBack
+item-back (comment text) (t, e) = (comment-kind text e, comment-back text e)
+item-back (directive key value one two) (t, e) =
+    (directive-kind key value one two e, directive-back key value one two e, typed-back key value one two e (t .1))
+item-back (feature sheet start end strand phase) (t, e) = record-back sheet start end strand phase (t .0) (t .1) (t .2) e

@@ -8,8 +8,11 @@ use mathlib.Core.List.{List, [], _∷_, _++_, append-assoc}
 use lib.Dec.{leb}
 use lib.ListN.{length, length-append}
 use borrow.Author.Tests.{leb-true, le-leb, lt-leb}
+use Rattle.lists.specs.Bytes.{Every}
 use Rattle.lines.specs.Lines.{text}
-use Rattle.demands.specs.Item.{Item, comment, line-of}
+use Rattle.marks.specs.Comment.{comment-reasons, hashed}
+use Rattle.marks.specs.Judge.{holds}
+use Rattle.demands.specs.Item.{Item, comment, line-of, reasons-of, Typed, Accepted}
 use Rattle.demands.specs.Survivors.{text-of, size, size-behind, before, after}
 
 -- ── at the edges ──────────────────────────────────────────────────────────────────────────────
@@ -20,6 +23,11 @@ mark x = comment (x ∷ [])
 
 abbrev three : List Item
 three = mark 97 ∷ mark 98 ∷ mark 99 ∷ []
+
+-- the writer accepts them
+three-accepted : Every Accepted three
+unfolding Typed reasons-of comment-reasons holds hashed
+three-accepted = (((omega arith, tt), refl), (((omega arith, tt), refl), (((omega arith, tt), refl), tt)))
 
 -- bytes put between `#a` and `#b`: the line feed before `#b` stands before them, so `#b` may be torn
 put-between : (before 3 three ≡ mark 97 ∷ []) × (after 6 three ≡ mark 99 ∷ [])

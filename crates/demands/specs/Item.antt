@@ -2,31 +2,19 @@
 -- what it is for a line to read back as it. Document 01, "Writing" and "The field sheet". Assumes nothing: these are definitions.
 use Prim.Native.Nat.{ℕ, _≤_}
 use mathlib.Core.Path.{_≡_}
-use mathlib.Core.List.{List, _++_}
-use lib.ListN.{length, drop}
+use mathlib.Core.List.{List}
 use Rattle.lists.specs.Bytes.{Bytes}
 use Rattle.buffer.specs.Answer.{Reason, first}
 use Rattle.numbers.specs.Number.{most64}
 use Rattle.lines.specs.Kind.{kind}
-use Rattle.lines.specs.declared.kind.Kind.the-variants.{Directive, Comment, Record}
+use Rattle.lines.specs.declared.kind.Kind.the-variants.{Directive, Comment}
 use Rattle.lines.proofs.KindLaws.{ReadsComment, ReadsDirective}
 use Rattle.marks.specs.declared.directive.Value.{Value}
 use Rattle.marks.specs.Comment.{comment-reasons, comment-line}
 use Rattle.marks.specs.Directive.{directive-reasons, directive-line}
 use Rattle.marks.proofs.RoundTrip.{value-text, Sized, Back}
 use Rattle.record.specs.Record.{record-reasons, record-line}
-use Rattle.columns.specs.Fields.{strandNumber, phaseNumber}
-use Rattle.unfold.specs.Unfold.{Unfolds}
-use Rattle.unfold.specs.declared.lay.Unfolded.{Unfolded}
-use Rattle.unfold.specs.declared.lay.Unfolded.the-variants.{Done}
-use Rattle.unfold.specs.declared.judging.Numbers.{Numbers}
-
--- the line is a record and, given room, unfolds into this sheet and these numbers
-pub record ReadsRecord (line sheet : List ℕ) (start end strand phase : ℕ) : Type 0 where
-  pub is-record : kind line ≡ Record
-  pub given-room : (d d' : List ℕ) (r : Unfolded) → length sheet ≤ length d → Unfolds line d d' r
-      → (n : Numbers) × (r ≡ Done n (length sheet)) × (d' ≡ sheet ++ drop (length sheet) d)
-      × (n .start ≡ start) × (n .end ≡ end) × (strandNumber (n .strand) ≡ strand) × (phaseNumber (n .phase) ≡ phase)
+use Rattle.roundtrip.specs.Reading.{ReadsRecord}
 
 -- a record: its field sheet, and start, end, strand and phase beside it as numbers; a directive: its key, its value, and the two texts that
 -- the value may use (a string; a region's name; a build's source and name); a comment: its text

@@ -1,9 +1,9 @@
 -- What is known of a record where no reason holds to refuse it, and how its score, strand and phase are read. Assumes nothing.
-use Prim.Native.Nat.{ℕ, zero, suc, _+_, _≤_}
+use Prim.Native.Nat.{ℕ, zero, suc, _≤_}
 use native.Mathlib.Omega.{arith}
 use mathlib.Core.Path.{_≡_, refl, sym, ap, _∙_}
 use mathlib.Core.Logic.{_≢_}
-use mathlib.Core.Bool.{Bool, true, false, cond, not, _||_, _&&_, true≢false}
+use mathlib.Core.Bool.{Bool, true, false, cond, not, _||_, true≢false}
 use mathlib.Core.List.{List, [], _∷_}
 use mathlib.Core.Option.{Option, none, some}
 use lib.Dec.{eqb, ltb}
@@ -26,7 +26,7 @@ use Rattle.columns.proofs.FieldsLaws.{strand-back, phase-back}
 use Rattle.columns.proofs.ScoreLaws.{isScoreByte, score-lacks, score-no-dot}
 use Rattle.sheet.specs.Sheet.{Sheet, sheet-read, isSome, sheet-of}
 use Rattle.sheet.proofs.SheetLaws.{GoodSheet, of-read}
-use Rattle.record.specs.Record.{asked, badScore, isCDS, record-reasons, strandByteOf, phaseByteOf, scoreOf}
+use Rattle.record.specs.Record.{asked, badScore, record-reasons, strandByteOf, phaseByteOf, scoreOf}
 use Rattle.unfold.specs.Unfold as unfolds
 use Rattle.unfold.specs.Unfold.{noScore}
 
@@ -142,8 +142,12 @@ phase-read n h = ap (λ k. phaseText (phaseByteOf k ∷ [])) (sym (phase-number 
 
 -- ── the score ─────────────────────────────────────────────────────────────────────────────────
 
--- a score that is not missing is a token, and so not `.`
-token : (x : ℕ) (s : List ℕ) → not (eqb (length (x ∷ s)) 0 || isScore (x ∷ s)) ≡ false → isScore (x ∷ s) ≡ true
+-- a score that is missing or a token
+abbrev pub Fit : List ℕ → Type 0
+Fit s = not (eqb (length s) 0 || isScore s) ≡ false
+
+-- one that is not missing is a token, and so not `.`
+token : (x : ℕ) (s : List ℕ) → Fit (x ∷ s) → isScore (x ∷ s) ≡ true
 token x s e = go (isScore (x ∷ s)) (rw (ne-eqb (suc (length s)) 0 (omega arith)) at e)
   where
     go : (t : Bool) → not t ≡ false → t ≡ true
@@ -162,12 +166,21 @@ unfolding scoreOf
 length-score [] = omega arith
 length-score (x ∷ s) = omega arith
 
-pub score-read : (s : List ℕ) → not (eqb (length s) 0 || isScore s) ≡ false → (noScore (scoreOf s) ≡ false) × (unfolds.scoreOf (scoreOf s) ≡ s)
+pub score-read : (s : List ℕ) → Fit s → (noScore (scoreOf s) ≡ false) × (unfolds.scoreOf (scoreOf s) ≡ s)
 unfolding scoreOf unfolds.scoreOf isDot
 score-read [] e = (refl, refl)
 score-read (x ∷ s) e = let t = token x s e in (rw (no-dot (x ∷ s) t, t), rw (no-dot (x ∷ s) t))
 
-pub scoreOf-lacks : (c : ℕ) → isScoreByte c ≡ false → 46 ≢ c → (s : List ℕ) → not (eqb (length s) 0 || isScore s) ≡ false → Lacks c (scoreOf s)
+pub scoreOf-lacks : (c : ℕ) → isScoreByte c ≡ false → 46 ≢ c → (s : List ℕ) → Fit s → Lacks c (scoreOf s)
 unfolding scoreOf
 scoreOf-lacks c other dot [] e = (dot, tt)
 scoreOf-lacks c other dot (x ∷ s) e = score-lacks c other (x ∷ s) (token x s e)
+
+-- what is read of a score is raw, or nothing
+pub score-bytes : (s : List ℕ) → Bytes s → Bytes (unfolds.scoreOf s)
+unfolding unfolds.scoreOf
+score-bytes s h = go (isDot s)
+  where
+    go : (t : Bool) → Bytes (cond t [] s)
+    go true = tt
+    go false = h

@@ -1,3 +1,5 @@
 pub mod AcceptedLaws
+pub mod BytesLaws
 pub mod LineLaws
 pub mod RecordBack
+pub mod Again

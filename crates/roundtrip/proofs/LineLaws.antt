@@ -2,7 +2,7 @@
 -- enough to unfold. Assumes nothing.
 use Prim.Native.Nat.{ℕ, suc, _+_, _*_, _≤_, _<_}
 use native.Mathlib.Omega.{arith}
-use mathlib.Core.Path.{_≡_, refl, sym, ap, _∙_}
+use mathlib.Core.Path.{_≡_, refl, sym}
 use mathlib.Core.Logic.{_≢_}
 use mathlib.Core.Bool.{Bool, true, false, cond}
 use mathlib.Core.List.{List, [], _∷_, _++_, map, flatMap}
@@ -10,7 +10,6 @@ use lib.Dec.{eqb}
 use lib.ListN.{length, getD, length-append}
 use Rattle.lists.specs.Bytes.{Every, Bytes, Lacks}
 use Rattle.lists.proofs.EveryLaws.{every-append}
-use Rattle.numbers.specs.Decimal.{decimal}
 use Rattle.numbers.specs.Number.{isDigit, most64}
 use Rattle.numbers.proofs.DecimalLaws.{decimal-lacks, length-decimal}
 use Rattle.percent.specs.declared.set.Set.the-variants.{Name, Column, Attribute}
@@ -28,10 +27,10 @@ use Rattle.attributes.specs.Written.{Writable, written, column}
 use Rattle.attributes.proofs.WrittenLaws.{column-lacks}
 use Rattle.columns.proofs.ColumnsLaws.{rowOf}
 use Rattle.columns.proofs.ScoreLaws.{isScoreByte}
-use Rattle.sheet.specs.Sheet.{Sheet, section-of, attribute-of, sheet-of}
-use Rattle.sheet.proofs.SheetLaws.{Text, GoodAttribute, GoodSheet}
+use Rattle.sheet.specs.Sheet.{Sheet, section-of, attribute-of}
+use Rattle.sheet.proofs.SheetLaws.{Text, GoodAttribute}
 use Rattle.sheet.proofs.LengthLaws.{length-section, length-attribute, length-sheet}
-use Rattle.record.specs.Record.{strandByteOf, phaseByteOf, scoreOf, columns, record-line}
+use Rattle.record.specs.Record.{strandByteOf, phaseByteOf, columns, record-line}
 use Rattle.roundtrip.proofs.AcceptedLaws.{Accepted, length-score, scoreOf-lacks}
 
 -- column 9 as it is written
@@ -76,39 +75,27 @@ phase-large n = least (eqb n 0) 32 48 _ (omega arith) (least (eqb n 1) 32 49 _ (
 
 -- a control character: tab, LF and CR are such
 module _ (c : ℕ) (small : c < 32) (digit : isDigit c ≡ false) (part : isScoreByte c ≡ false) (hex : isHex c ≡ false) (escaped : escapes Attribute c ≡ true) where
-  pub columns-lack : {text : List ℕ} {start end strand phase : ℕ} (a : Accepted text start end strand phase)
+  columns-lack : {text : List ℕ} {start end strand phase : ℕ} (a : Accepted text start end strand phase)
       → Every (Lacks c) (columns (a .sheet) start end strand phase)
   unfolding columns
   columns-lack {text} {start} {end} {strand} {phase} a =
       let s = a .sheet in
-      let g = a .good in (
-        encoded-no-control Name c small (s .name) (g .good-name .1),
-        (
-          encoded-no-control Column c small (s .source) (g .good-source .1),
-          (
-            encoded-no-control Column c small (s .type) (g .good-type .1),
-            (
-              decimal-lacks c start digit,
-              (
-                decimal-lacks c end digit,
-                (
-                  scoreOf-lacks c part (λ p. omega arith) (s .score) (a .fit-score),
-                  (
-                    ((λ p. omega (arith, strand-large strand)), tt),
-                    (((λ p. omega (arith, phase-large phase)), tt), tt),
-                  ),
-                ),
-              ),
-            ),
-          ),
-        ),
-      )
+      let g = a .good in
+      let name = encoded-no-control Name c small (s .name) (g .good-name .1) in
+      let source = encoded-no-control Column c small (s .source) (g .good-source .1) in
+      let type = encoded-no-control Column c small (s .type) (g .good-type .1) in
+      let score = scoreOf-lacks c part (λ p. omega arith) (s .score) (a .fit-score) in
+      let strand-byte : strandByteOf strand ≢ c = λ p. omega (arith, strand-large strand) in
+      let phase-byte : phaseByteOf phase ≢ c = λ p. omega (arith, phase-large phase) in
+      (name, (source, (type, (decimal-lacks c start digit, (decimal-lacks c end digit, (score, ((strand-byte, tt), ((phase-byte, tt), tt))))))))
 
   line-lacks : {text : List ℕ} {start end strand phase : ℕ} (a : Accepted text start end strand phase) → c ≢ 9 → Lacks c (record-line text start end strand phase)
   line-lacks {text} {start} {end} {strand} {phase} a tab =
+      let l = a .sheet .attributes in
+      let signs : Lacks c (37 ∷ 44 ∷ 46 ∷ 59 ∷ 61 ∷ []) = ((λ p. omega arith), ((λ p. omega arith), ((λ p. omega arith), ((λ p. omega arith), ((λ p. omega arith), tt))))) in
       rw (line-is a)
       (every-row (λ x. x ≢ c) (λ p. tab (sym p)) (columns (a .sheet) start end strand phase) (column-9 (a .sheet)) (columns-lack a)
-      (column-lacks (escapes Attribute) c escaped hex ((λ p. omega arith), ((λ p. omega arith), ((λ p. omega arith), ((λ p. omega arith), ((λ p. omega arith), tt))))) (a .sheet .attributes) (writable (a .sheet .attributes) (a .good .good-attributes .1))))
+      (column-lacks (escapes Attribute) c escaped hex signs l (writable l (a .good .good-attributes .1))))
 
 -- no column holds a tab
 pub columns-no-tab : {text : List ℕ} {start end strand phase : ℕ} (a : Accepted text start end strand phase)

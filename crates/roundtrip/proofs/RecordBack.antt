@@ -2,8 +2,8 @@
 use Prim.Native.Nat.{ℕ, _≤_}
 use native.Mathlib.Omega.{arith}
 use mathlib.Core.Path.{_≡_, refl, sym, ap, _∙_}
-use mathlib.Core.Bool.{true, false}
-use mathlib.Core.List.{List, [], _∷_, _++_}
+use mathlib.Core.Bool.{true}
+use mathlib.Core.List.{List}
 use mathlib.Core.Option.{some}
 use lib.ListN.{length, getD}
 use borrow.Author.Tests.{le-ltb}
@@ -13,7 +13,6 @@ use Rattle.numbers.specs.Decimal.{decimal}
 use Rattle.numbers.specs.Number.{most64}
 use Rattle.numbers.proofs.DecimalLaws.{position-decimal}
 use Rattle.percent.specs.declared.set.Set.the-variants as set
-use Rattle.percent.specs.Percent.{decoded, encoded}
 use Rattle.percent.specs.Sets.{escapes}
 use Rattle.percent.proofs.SetLaws.{decoded-set}
 use Rattle.lines.specs.declared.kind.Kind.the-variants.{Record}
@@ -28,9 +27,9 @@ use Rattle.columns.specs.declared.strand.StrandRead.the-variants as strandRead
 use Rattle.columns.specs.declared.phase.PhaseRead.the-variants as phaseRead
 use Rattle.columns.specs.Columns.{isRecord, columnText}
 use Rattle.columns.specs.Fields.{positionText, strandText, phaseText}
-use Rattle.columns.proofs.ColumnsLaws.{rowOf, tabsBefore, row-record, row-text}
+use Rattle.columns.proofs.ColumnsLaws.{tabsBefore, row-record, row-text}
 use Rattle.sheet.specs.Sheet.{sheet-read, sheet-of}
-use Rattle.record.specs.Record.{strandByteOf, phaseByteOf, scoreOf, columns, record-reasons, record-line}
+use Rattle.record.specs.Record.{columns, record-reasons, record-line}
 use Rattle.unfold.specs.declared.lay.Unfolded.{Unfolded}
 use Rattle.unfold.specs.declared.lay.Unfolded.the-variants.{Done}
 use Rattle.unfold.specs.Unfold.{unfolded, numbers-of, unfold-reasons, unfolding-by, contents, Unfolds}
@@ -140,29 +139,29 @@ unfolding-gives {line} {sheet} u d d' r room p =
 
 module _ (text : List ℕ) (start end strand phase : ℕ) (bytes : Bytes text) (low : start ≤ most64) (high : end ≤ most64)
     (writes : first (record-reasons text start end strand phase) ≡ 0) where
-  take-it : Accepted text start end strand phase
-  take-it = accepted text start end strand phase bytes writes
+  taken : Accepted text start end strand phase
+  taken = accepted text start end strand phase bytes writes
 
   pub record-kind : kind (record-line text start end strand phase) ≡ Record
-  record-kind = line-kind take-it
+  record-kind = line-kind taken
 
   pub record-one : OneLine (record-line text start end strand phase)
-  record-one = line-one take-it
+  record-one = line-one taken
 
   -- so it is under the 4,194,304 bytes that can be unfolded
   pub record-short : length (record-line text start end strand phase) ≤ 3145720
-  record-short = line-short take-it low high
+  record-short = line-short taken low high
 
   -- what is unfolded is the sheet that the text is read as
   pub record-sheet : sheet-read text ≡ some (unfolded (record-line text start end strand phase))
-  record-sheet = rw (sheet-back take-it low high) (take-it .reads)
+  record-sheet = rw (sheet-back taken low high) (taken .reads)
 
   pub record-unfolds : Unfolding (record-line text start end strand phase) text start end strand phase
   record-unfolds =
       record {
-        no-reason = no-reason take-it low high;
-        same-sheet = ap sheet-of (sheet-back take-it low high) ∙ sym (take-it .whole);
-        same-numbers = numbers-back take-it low high;
+        no-reason = no-reason taken low high;
+        same-sheet = ap sheet-of (sheet-back taken low high) ∙ sym (taken .whole);
+        same-numbers = numbers-back taken low high;
       }
 
   pub record-back : ReadsRecord (record-line text start end strand phase) text start end strand phase

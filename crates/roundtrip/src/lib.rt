@@ -2,4 +2,4 @@
 // that of unfolding.
 //
 // Proved: a record that the writer accepts is one line, of the kind record, short enough to unfold, and unfolding it gives the same sheet
-// and numbers; so is one that was unfolded and is written again. Assumes nothing.
+// and numbers; the same holds of one that was unfolded and is written again. Assumes nothing.
