@@ -34,7 +34,7 @@ pub struct Desk {
 }
 
 impl Desk {
-    /// The ways that memory is lent: on one side of the fences or the other, an output buffer right behind its text or far
+    /// The ways that memory is lent: on one side of the fences or the other, an output buffer right behind its texts or far
     /// away, and no bytes by a null pointer or another.
     pub const WAYS: u64 = 8;
 
@@ -119,13 +119,18 @@ impl Desk {
         };
 
         let side = self.side();
-        let (text, out) = if self.is_behind() && case.text.len() < BESIDE {
-            self.room.lend_behind(case.text, room)
+        let given = [case.text, case.tag, case.second];
+        let (lent, out) = if self.is_behind() && texts < BESIDE {
+            self.room.lend_behind(given, room)
         } else {
-            (self.texts.lend(case.text, side), self.room.lend(room, side))
+            let lent = [
+                self.texts.lend(case.text, side),
+                self.tags.lend(case.tag, side),
+                self.seconds.lend(case.second, side),
+            ];
+            (lent, self.room.lend(room, side))
         };
-        let (tag, second) = (self.tags.lend(case.tag, side), self.seconds.lend(case.second, side));
-        same(write([text, tag, second], out), answer(written))?;
+        same(write(lent, out), answer(written))?;
 
         if self.room.has(laid) {
             return Ok(());

@@ -105,11 +105,33 @@ pub fn sweep(report: &mut Report) {
     }
 
     for len in 0..=70 {
-        let text = vec![b'a'; len];
+        let text = texts::turns(b"abcdefghijk", len);
+        let other = texts::turns(b"lmnopqr", 70 - len);
         comment_of(report, &text);
-        directive_of(report, directive_case(&text, TEXT, &text, b""));
+        directive_of(report, directive_case(&text, TEXT, &other, b""));
+        directive_of(report, directive_case(b"a", TEXT, &text, b""));
         directive_of(report, directive_case(KEYS[1], REGION, &text, b""));
-        directive_of(report, directive_case(KEYS[2], BUILD, &text, &text));
+        directive_of(report, directive_case(KEYS[2], BUILD, &text, &other));
+        directive_of(report, directive_case(KEYS[2], BUILD, &text, b"b"));
+    }
+
+    // Each byte of the three keys put wrong, and each cut of them.
+    for key in &KEYS[..3] {
+        for at in 0..key.len() {
+            for number in [VERSION, REGION, BUILD] {
+                directive_of(report, directive_case(&key[..at], number, b"b", b"c"));
+
+                for byte in BYTES {
+                    let mut key = key.to_vec();
+                    key[at] = byte;
+                    report.check(
+                        Call::WriteDirective,
+                        directive_case(&key, number, b"b", b"c"),
+                        directive,
+                    );
+                }
+            }
+        }
     }
 
     for len in [LONGEST - 1, LONGEST, LONGEST + 1] {

@@ -42,14 +42,17 @@ pub fn every(report: &mut Report, len: usize) {
         });
     }
 
-    if len <= 5 {
+    if len <= 7 {
         texts::every(b"01.+-e", len, |token| {
             let sheet = Sheet {
                 score: token.to_vec(),
                 ..plain()
             };
-            written_of(report, &sheet.bytes(), NUMBERS);
+            report.check(Call::WriteRecord, case(&sheet.bytes(), NUMBERS), write);
         });
+    }
+
+    if len <= 5 {
         texts::every(b"CDSc", len, |ty| {
             for phase in 0..=4 {
                 let sheet = Sheet {
@@ -160,11 +163,17 @@ pub fn sweep(report: &mut Report) {
     }
 
     for len in 0..=70 {
-        for byte in *b"a%" {
-            for sheet in with_text(&vec![byte; len]) {
+        for alphabet in [&b"abcdefghijk"[..], b"%;=,&\t\n", b"a%b;cd=efg"] {
+            for sheet in with_text(&texts::turns(alphabet, len)) {
                 written_of(report, &sheet.bytes(), NUMBERS);
             }
         }
+
+        let digits = Sheet {
+            score: texts::turns(b"12345678901", len),
+            ..plain()
+        };
+        written_of(report, &digits.bytes(), NUMBERS);
 
         let mut many = plain();
         many.attributes = vec![(b"a".to_vec(), vec![b"1".to_vec(); len.max(1)]); len];
@@ -183,7 +192,7 @@ fn long(report: &mut Report) {
         for byte in *b"a%" {
             for i in 0..6 {
                 let rest = len - with_text(b"")[i].bytes().len();
-                sheets.push(with_text(&vec![byte; rest])[i].bytes());
+                sheets.push(with_text(&texts::turns(&[byte, b'b', b'c'], rest))[i].bytes());
             }
         }
 

@@ -30,6 +30,12 @@ pub fn every(report: &mut Report, len: usize) {
         texts::every(b"=;,%4.", len, |column| line_of(report, &with(9, column)));
     }
 
+    if len <= 7 {
+        texts::every(b"01.+-e", len, |token| {
+            report.check(Call::Judge, Case::of(&with(6, token)), judge);
+        });
+    }
+
     if len <= 5 {
         texts::every(b"01.+-e", len, |token| line_of(report, &with(6, token)));
         texts::every(b"%24gF", len, |token| {
@@ -53,6 +59,8 @@ pub fn sweep(report: &mut Report) {
     for column in 1..=9 {
         for len in 0..=70 {
             line_of(report, &with(column, &vec![b'1'; len]));
+            line_of(report, &with(column, &texts::turns(b"abcdefghijk", len)));
+            line_of(report, &with(column, &texts::turns(b"a=bcd,ef;g", len)));
         }
     }
 
@@ -90,7 +98,7 @@ pub fn sweep(report: &mut Report) {
 
         for (first, rest) in [(&b"="[..], b'a'), (b"=", b','), (b"", b'a')] {
             let mut column = first.to_vec();
-            column.resize(len - short, rest);
+            column.extend(texts::turns(&[rest, b'b', rest, rest], len - short - first.len()));
             let line = with(9, &column);
 
             report.check(Call::Judge, Case::of(&line), judge);
