@@ -1,10 +1,10 @@
 //! Links the library into the programs that call it, and into no other: the oracle's own programs are built without it.
 //!
-//! The archive is the file of the variable GFF3_LIBRARY, or the one that `rt staticlib exports` writes.
+//! The archive is the file of the variable GFF3_LIBRARY, or the one that tools/library writes.
 
 use std::{env, path::Path};
 
-const LIBRARY: &str = "../target/staticlib/libexports.a";
+const LIBRARY: &str = "../target/staticlib/libgff3_lines.a";
 
 fn main() {
     let library = env::var("GFF3_LIBRARY").unwrap_or_else(|_| {

@@ -1,4 +1,4 @@
-/* GFF3 lines, read with proof: crates/exports states what each call answers.
+/* GFF3 lines, read and written with proof: the crates export_lines to export_write state what each call answers.
  *
  * Every function takes any bytes and numbers, ends, and keeps nothing: there is no state, and any number of threads may call. A pointer
  * may be null where its length is 0. An output buffer may not overlap a text of the same call.
@@ -9,19 +9,26 @@
  * `refused` is 0, or the number of the refusal, and then every other field is 0, but for `length` with 22:
  *
  *    1            the line has fewer than eight tabs, or the bounds are not the line's own
- *    2            not a position
- *    3            not a strand
- *    4            not a phase
+ *    2            not a position; in a write, a position of zero
+ *    3            not a strand; in a write, above 3
+ *    4            not a phase; in a write, above 3
  *    5            attribute text is left without `=`
  *    6            the text of a version, a region or a build is empty
- *    7, 8, 9      version: major, minor, patch not valid
+ *    7, 8, 9      version: major, minor, patch not valid; in a write, 9 is a patch without a minor
  *    10           region: name missing
  *    11, 12       region: start missing, not valid
  *    13, 14       region: end missing, not valid
  *    15, 16       build: source, name missing
  *    17           not a score
+ *    18           the type is `CDS`, and there is no phase
+ *    19           the key of a directive holds ASCII white space
+ *    20           a comment holds CR or LF or begins with `#`; the text of a directive holds CR or LF; a region's name, or a build's
+ *                 source or name, is empty or holds ASCII white space
+ *    21           a version, region or build under another key than `gff-version`, `sequence-region`, `genome-build`
  *    22           the output is longer than the buffer; `length` is the length needed
- *    24           the text to encode has over 1,048,576 bytes
+ *    23           not a sheet
+ *    24           the line to unfold has over 4,194,304 bytes; the text to encode, the sheet, or a text of a comment or a directive
+ *                 has over 1,048,576
  *
  * Of several, the one that a function's comment names first is given. A refused call changes no byte of its output buffer, and a call
  * that is not refused changes none past the length that it reports.
@@ -228,6 +235,59 @@ gff3_written gff3_encode(uint32_t set, const uint8_t *text, size_t text_len, uin
 
 /* A position, as columns 4 and 5 have it: 1 to 18446744073709551615. Refusal 2. */
 gff3_number gff3_position(const uint8_t *text, size_t text_len);
+
+/* ---- the sheet of a record ---- */
+
+/* A sheet holds the texts of a record, each after its count of bytes, and a count is four bytes, low byte first: column 1, source, type,
+ * score (a count of 0: missing), and the count of attributes; then of each attribute its tag, the count of its values, which is not 0,
+ * and its values. Nothing follows. All but the score is percent-decoded. Start, end, strand and phase stand beside it as numbers: strand
+ * 0 to 3 for . + - ?, phase 0 to 2, and 3 for none.
+ *
+ * A line is taken as a record without a look at its kind. `length` is that of the sheet. */
+typedef struct {
+    uint64_t refused;
+    size_t length;
+    uint64_t start;
+    uint64_t end;
+    uint32_t strand;
+    uint32_t phase;
+} gff3_unfolded;
+
+/* The numbers, and how long the sheet is. Refusals 24, 1, 2 (start, then end), 17, 3, 4, 5. */
+gff3_unfolded gff3_judge(const uint8_t *line, size_t line_len);
+
+/* The same, and the sheet itself. Refusals 24, 1, 2, 17, 3, 4, 5, 22. */
+gff3_unfolded gff3_unfold(const uint8_t *line, size_t line_len, uint8_t *sheet, size_t sheet_len);
+
+/* ---- lines written, without a line feed ---- */
+
+/* The line of a sheet and its numbers; no attributes are written as a dot. Refusals 24, 23, 2, 17, 3, 4, 18, 22. */
+gff3_written gff3_write_record(const uint8_t *sheet, size_t sheet_len, uint64_t start, uint64_t end, uint32_t strand, uint32_t phase,
+                               uint8_t *out, size_t out_len);
+
+/* The value of a directive. A text, a region's name and a build's source go into the call as `first`, and a build's name as `second`;
+ * `start` and `end` are a region's. The minor and the patch of a version are there where `has_minor`, `has_patch` is not 0. What the kind
+ * does not name is not looked at. Another kind counts as GFF3_NO_VALUE. */
+enum { GFF3_NO_VALUE = 0, GFF3_TEXT = 1, GFF3_VERSION = 2, GFF3_REGION = 3, GFF3_BUILD = 4 };
+
+typedef struct {
+    uint32_t kind;
+    uint32_t major;
+    uint32_t has_minor;
+    uint32_t minor;
+    uint32_t has_patch;
+    uint32_t patch;
+    uint64_t start;
+    uint64_t end;
+} gff3_directive_value;
+
+/* `##`, the key, and a space and the value where there is one. A version, region or build is written under its own key alone, a text
+ * under any. Refusals 24, 21, 19, 20, 9, 2, 22. */
+gff3_written gff3_write_directive(const uint8_t *key, size_t key_len, gff3_directive_value value, const uint8_t *first, size_t first_len,
+                                  const uint8_t *second, size_t second_len, uint8_t *out, size_t out_len);
+
+/* `#` and the text. Refusals 24, 20, 22. */
+gff3_written gff3_write_comment(const uint8_t *text, size_t text_len, uint8_t *out, size_t out_len);
 
 #ifdef __cplusplus
 }

@@ -2,12 +2,14 @@
 //!
 //!     bench FILE [ROUNDS]
 //!
-//! Three passes over an annotation: splitting its lines; finding the columns of each record line; walking each column 9 to its
-//! end. Lines and columns are cut before the pass that needs them. The two take turns, each time is the least of all rounds,
-//! and both must come to the same counts and sums. No buffer is cleared or filled within a pass.
+//! Four passes over an annotation: splitting its lines; finding the columns of each record line; walking each column 9 to its
+//! end; writing each record again, by unfolding and writing here, and by the Rust's record and its writer. Lines and columns are
+//! cut before the pass that needs them. The two take turns, each time is the least of all rounds, and both must come to the same
+//! counts and sums; what they write is compared byte by byte before the passes. No buffer is cleared or filled within a pass,
+//! but for the Rust's vector, which is emptied before each record.
 
 #[path = "../src/ours.rs"]
-#[expect(dead_code, reason = "the passes call three of the functions")]
+#[expect(dead_code, reason = "the passes call some of the functions")]
 mod ours;
 
 use std::{
@@ -17,7 +19,7 @@ use std::{
     time::{Duration, Instant},
 };
 
-use oracle::io::api::{bench as rust, lines::kind, record};
+use oracle::io::api::{bench as rust, lines::kind, record, writing::rewrite_record};
 
 fn main() -> ExitCode {
     let words: Vec<String> = env::args().skip(1).collect();
@@ -45,14 +47,19 @@ fn main() -> ExitCode {
         lines.len()
     );
 
+    if let Some(line) = lines.iter().find(|line| !is_same(line)) {
+        return failed(&format!("written in another way: \"{}\"", line.escape_ascii()));
+    }
+
     let passes = [
         pass("lines", rounds, || split(&text), || rust::lines(&text)),
         pass("columns", rounds, || index(&lines), || rust::columns(&lines)),
         pass("attributes", rounds, || walk(&columns), || rust::attributes(&columns)),
+        pass("writing", rounds, || rewrite(&lines), || rust::records(&lines)),
     ];
 
     println!("{:<12} {:>10} {:>10} {:>10}", "pass", "ours", "Rust", "ours/Rust");
-    let mut all = Pass::named("all three");
+    let mut all = Pass::named("all four");
 
     for pass in passes {
         let pass = match pass {
@@ -208,6 +215,55 @@ fn walk(columns: &[&[u8]]) -> Sum {
             count += 1;
             sum += (field.tag_end - field.tag_start + field.value_end - field.value_start) as u64;
             at = field.next;
+        }
+    }
+
+    (count, sum)
+}
+
+/// The room for a sheet, and for a line: more than any record of an annotation needs.
+const ROOM: usize = 1 << 20;
+
+/// Whether a record is written as the Rust writes it, or refused where the Rust fails.
+fn is_same(line: &[u8]) -> bool {
+    let (mut sheet, mut out) = (vec![0; 12 * line.len()], vec![0; 3 * line.len()]);
+    let mut expected = Vec::new();
+    let written = rewritten(line, &mut sheet, &mut out);
+    let is_ok = rewrite_record(line, &mut expected).is_ok();
+    (written.refused == 0) == is_ok && (!is_ok || out[..written.length] == expected)
+}
+
+fn rewritten(line: &[u8], sheet: &mut [u8], out: &mut [u8]) -> ours::Written {
+    let record = ours::unfold(line, sheet);
+
+    if record.refused != 0 {
+        return ours::Written {
+            refused: record.refused,
+            length: 0,
+        };
+    }
+
+    ours::write_record(
+        &sheet[..record.length],
+        record.start,
+        record.end,
+        record.strand,
+        record.phase,
+        out,
+    )
+}
+
+#[inline(never)]
+fn rewrite(lines: &[&[u8]]) -> Sum {
+    let (mut sheet, mut out) = (vec![0; ROOM], vec![0; ROOM]);
+    let (mut count, mut sum) = (0, 0);
+
+    for line in lines {
+        let written = rewritten(line, &mut sheet, &mut out);
+
+        if written.refused == 0 {
+            count += 1;
+            sum += written.length as u64;
         }
     }
 

@@ -39,12 +39,16 @@ impl Slack {
 /// What a call is given. A call leaves out what it has no use for.
 #[derive(Clone, Copy, Debug, Default)]
 pub struct Case<'a> {
-    /// The text, line, column or value.
+    /// The text, line, column, value, sheet or key.
     pub text: &'a [u8],
-    /// The tag that is looked up.
+    /// The tag that is looked up, or the first text beside a key.
     pub tag: &'a [u8],
-    /// The cursor, the column, or the set.
+    /// The second text beside a key.
+    pub second: &'a [u8],
+    /// The cursor, the column, the set, or the kind of a directive's value.
     pub number: usize,
+    /// The numbers beside a sheet or a key.
+    pub numbers: [u64; 4],
     /// Whether the last value is out.
     pub out: u64,
     pub bounds: Given,
@@ -76,8 +80,20 @@ impl fmt::Display for Case<'_> {
             show(f, "tag", self.tag)?;
         }
 
+        if !self.second.is_empty() {
+            show(f, "second", self.second)?;
+        }
+
         if self.number != 0 {
-            writeln!(f, "  number   {} (the cursor, the column or the set)", self.number)?;
+            writeln!(
+                f,
+                "  number   {} (the cursor, the column, the set or the kind)",
+                self.number
+            )?;
+        }
+
+        if self.numbers != [0; 4] {
+            writeln!(f, "  numbers  {:?}", self.numbers)?;
         }
 
         if self.out != 0 {

@@ -1,13 +1,21 @@
 //! The memory that calls are lent, anew for each.
 
+use std::fmt::Debug;
+
 use crate::{
     case::{Case, Difference, Slack, Verdict, same},
     fence::{Room, Side, Texts},
     ours::{self, Written},
 };
 
-/// Longer than any text here, and than any output.
-const LONGEST: usize = 4 << 20;
+/// Longer than any text here.
+const LONGEST: usize = 5 << 20;
+
+/// Longer than any output: a sheet has up to six bytes for a byte of its line.
+const WIDEST: usize = 6 * LONGEST;
+
+/// The room beyond its text that a refused call is lent, so that it could write all of its output.
+const MORE: usize = 200;
 
 /// Texts shorter than this stand right before the output buffer now and then.
 const BESIDE: usize = 4096;
@@ -19,13 +27,14 @@ const STRIDE: u64 = 0x9e37_79b9_7f4a_7c15;
 pub struct Desk {
     texts: Texts,
     tags: Texts,
+    seconds: Texts,
     room: Room,
     turn: u64,
     way: u64,
 }
 
 impl Desk {
-    /// The ways that memory is lent: on one side of the fences or the other, an output buffer right behind its text or far
+    /// The ways that memory is lent: on one side of the fences or the other, an output buffer right behind its texts or far
     /// away, and no bytes by a null pointer or another.
     pub const WAYS: u64 = 8;
 
@@ -33,7 +42,8 @@ impl Desk {
         Self {
             texts: Texts::new(LONGEST),
             tags: Texts::new(LONGEST),
-            room: Room::new(LONGEST),
+            seconds: Texts::new(LONGEST),
+            room: Room::new(WIDEST),
             turn: 0,
             way: 0,
         }
@@ -76,9 +86,22 @@ impl Desk {
         expected: Result<&[u8], u64>,
         write: impl Fn(&[u8], &mut [u8]) -> Written,
     ) -> Verdict {
-        let need = expected.map_or(0, <[u8]>::len);
+        self.lays(case, expected, |[text, ..], out| write(text, out), |written| written)
+    }
+
+    /// The same of a call that is given three texts, or answers more than a length: `answer` is what it has to answer where a
+    /// writer answers this.
+    pub fn lays<A: Debug + PartialEq>(
+        &mut self,
+        case: Case<'_>,
+        expected: Result<&[u8], u64>,
+        write: impl Fn([&[u8]; 3], &mut [u8]) -> A,
+        answer: impl Fn(Written) -> A,
+    ) -> Verdict {
+        let texts = case.text.len() + case.tag.len() + case.second.len();
+        let need = expected.map_or(texts + MORE, <[u8]>::len);
         let room = case.slack.room(need);
-        let answer = match expected {
+        let written = match expected {
             Err(refused) => Written { refused, length: 0 },
             Ok(_) if room < need => Written {
                 refused: 22,
@@ -89,19 +112,25 @@ impl Desk {
                 length: need,
             },
         };
-        let laid = if answer.refused == 0 {
+        let laid = if written.refused == 0 {
             expected.unwrap_or_default()
         } else {
             b""
         };
 
         let side = self.side();
-        let (text, out) = if self.is_behind() && case.text.len() < BESIDE {
-            self.room.lend_behind(case.text, room)
+        let given = [case.text, case.tag, case.second];
+        let (lent, out) = if self.is_behind() && texts < BESIDE {
+            self.room.lend_behind(given, room)
         } else {
-            (self.texts.lend(case.text, side), self.room.lend(room, side))
+            let lent = [
+                self.texts.lend(case.text, side),
+                self.tags.lend(case.tag, side),
+                self.seconds.lend(case.second, side),
+            ];
+            (lent, self.room.lend(room, side))
         };
-        same(write(text, out), answer)?;
+        same(write(lent, out), answer(written))?;
 
         if self.room.has(laid) {
             return Ok(());

@@ -81,7 +81,7 @@ pub struct Room {
     start: *mut u8,
     len: usize,
     lent: Range<usize>,
-    /// The text that stands right before the lent buffer.
+    /// The texts that stand right before the lent buffer.
     beside: Vec<u8>,
 }
 
@@ -104,17 +104,19 @@ impl Room {
         unsafe { slice::from_raw_parts_mut(self.start.add(self.lent.start), n) }
     }
 
-    /// The same with a text right before the buffer: code that copies by large steps looks how far apart the two are.
-    pub fn lend_behind(&mut self, text: &[u8], n: usize) -> (&[u8], &mut [u8]) {
-        self.fill(text, n, Side::Last);
-        let at = self.lent.start;
+    /// The same with texts right before the buffer, the first of them last: code that copies by large steps looks how far apart
+    /// a text and the buffer are.
+    pub fn lend_behind(&mut self, texts: [&[u8]; 3], n: usize) -> ([&[u8]; 3], &mut [u8]) {
+        let [first, second, third] = texts;
+        self.fill(&[third, second, first].concat(), n, Side::Last);
+        let mut at = self.lent.start;
+        let out = unsafe { slice::from_raw_parts_mut(self.start.add(at), n) };
+        let lent = texts.map(|text| {
+            at -= text.len();
+            unsafe { slice::from_raw_parts(self.start.add(at), text.len()) }
+        });
 
-        unsafe {
-            (
-                slice::from_raw_parts(self.start.add(at - text.len()), text.len()),
-                slice::from_raw_parts_mut(self.start.add(at), n),
-            )
-        }
+        (lent, out)
     }
 
     fn fill(&mut self, text: &[u8], n: usize, side: Side) {

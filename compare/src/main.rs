@@ -16,13 +16,17 @@ mod desk;
 mod directives;
 mod fence;
 mod lines;
+mod marks;
 mod numbers;
 mod options;
 mod ours;
+mod records;
 mod report;
 mod score;
+mod sheet;
 mod shrink;
 mod texts;
+mod unfolding;
 mod watch;
 
 use std::{env, process::ExitCode, time::Duration};
@@ -55,7 +59,9 @@ macro_rules! groups {
     };
 }
 
-static GROUPS: [Group; 5] = groups![lines, columns, attributes, directives, coding];
+static GROUPS: [Group; 8] = groups![
+    lines, columns, attributes, directives, coding, unfolding, records, marks
+];
 
 fn main() -> ExitCode {
     let names: Vec<&str> = GROUPS.iter().map(|group| group.name).collect();

@@ -55,6 +55,17 @@ structs! {
     VersionValue { refused: u64, parts: u64, major: u64, minor: u64, patch: u64 }
     RegionValue { refused: u64, name_start: usize, name_end: usize, start: u64, end: u64 }
     BuildValue { refused: u64, source_start: usize, source_end: usize, name_start: usize, name_end: usize }
+    Unfolded { refused: u64, length: usize, start: u64, end: u64, strand: u32, phase: u32 }
+    DirectiveValue {
+        kind: u32,
+        major: u32,
+        has_minor: u32,
+        minor: u32,
+        has_patch: u32,
+        patch: u32,
+        start: u64,
+        end: u64
+    }
 }
 
 unsafe extern "C" {
@@ -87,6 +98,30 @@ unsafe extern "C" {
     fn gff3_decode(text: *const u8, text_len: usize, out: *mut u8, out_len: usize) -> Written;
     fn gff3_encode(set: u32, text: *const u8, text_len: usize, out: *mut u8, out_len: usize) -> Written;
     fn gff3_position(text: *const u8, text_len: usize) -> Number;
+    fn gff3_judge(line: *const u8, line_len: usize) -> Unfolded;
+    fn gff3_unfold(line: *const u8, line_len: usize, sheet: *mut u8, sheet_len: usize) -> Unfolded;
+    fn gff3_write_record(
+        sheet: *const u8,
+        sheet_len: usize,
+        start: u64,
+        end: u64,
+        strand: u32,
+        phase: u32,
+        out: *mut u8,
+        out_len: usize,
+    ) -> Written;
+    fn gff3_write_directive(
+        key: *const u8,
+        key_len: usize,
+        value: DirectiveValue,
+        first: *const u8,
+        first_len: usize,
+        second: *const u8,
+        second_len: usize,
+        out: *mut u8,
+        out_len: usize,
+    ) -> Written;
+    fn gff3_write_comment(text: *const u8, text_len: usize, out: *mut u8, out_len: usize) -> Written;
 }
 
 /// Makes each function safe: the header asks for nothing but that a pointer has its length of bytes.
@@ -118,6 +153,7 @@ on_texts! {
     region = gff3_region(text) -> RegionValue;
     build = gff3_build(text) -> BuildValue;
     position = gff3_position(text) -> Number;
+    judge = gff3_judge(line) -> Unfolded;
 }
 
 pub fn text(line: &[u8], bounds: Bounds, column: u32, out: &mut [u8]) -> Written {
@@ -134,6 +170,45 @@ pub fn decode(text: &[u8], out: &mut [u8]) -> Written {
 
 pub fn encode(set: u32, text: &[u8], out: &mut [u8]) -> Written {
     unsafe { gff3_encode(set, pointer(text), text.len(), pointer_mut(out), out.len()) }
+}
+
+pub fn unfold(line: &[u8], sheet: &mut [u8]) -> Unfolded {
+    unsafe { gff3_unfold(pointer(line), line.len(), pointer_mut(sheet), sheet.len()) }
+}
+
+pub fn write_record(sheet: &[u8], start: u64, end: u64, strand: u32, phase: u32, out: &mut [u8]) -> Written {
+    unsafe {
+        gff3_write_record(
+            pointer(sheet),
+            sheet.len(),
+            start,
+            end,
+            strand,
+            phase,
+            pointer_mut(out),
+            out.len(),
+        )
+    }
+}
+
+pub fn write_comment(text: &[u8], out: &mut [u8]) -> Written {
+    unsafe { gff3_write_comment(pointer(text), text.len(), pointer_mut(out), out.len()) }
+}
+
+pub fn write_directive(key: &[u8], value: DirectiveValue, first: &[u8], second: &[u8], out: &mut [u8]) -> Written {
+    unsafe {
+        gff3_write_directive(
+            pointer(key),
+            key.len(),
+            value,
+            pointer(first),
+            first.len(),
+            pointer(second),
+            second.len(),
+            pointer_mut(out),
+            out.len(),
+        )
+    }
 }
 
 #[inline]

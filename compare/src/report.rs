@@ -51,7 +51,12 @@ calls! {
     Build = "gff3_build",
     Decode = "gff3_decode",
     Encode = "gff3_encode",
-    Position = "gff3_position"
+    Position = "gff3_position",
+    Judge = "gff3_judge",
+    Unfold = "gff3_unfold",
+    WriteRecord = "gff3_write_record",
+    WriteDirective = "gff3_write_directive",
+    WriteComment = "gff3_write_comment"
 }
 
 /// Makes one call, and compares its answer.

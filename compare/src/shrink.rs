@@ -12,7 +12,9 @@ const PATIENCE: Duration = Duration::from_secs(10);
 pub struct Owned {
     text: Vec<u8>,
     tag: Vec<u8>,
+    second: Vec<u8>,
     number: usize,
+    numbers: [u64; 4],
     out: u64,
     bounds: Given,
     slack: Slack,
@@ -23,7 +25,9 @@ impl Owned {
         Self {
             text: case.text.to_vec(),
             tag: case.tag.to_vec(),
+            second: case.second.to_vec(),
             number: case.number,
+            numbers: case.numbers,
             out: case.out,
             bounds: case.bounds,
             slack: case.slack,
@@ -34,7 +38,9 @@ impl Owned {
         Case {
             text: &self.text,
             tag: &self.tag,
+            second: &self.second,
             number: self.number,
+            numbers: self.numbers,
             out: self.out,
             bounds: self.bounds,
             slack: self.slack,
@@ -52,6 +58,7 @@ pub fn smallest(case: Case<'_>, differs: impl FnMut(Case<'_>) -> bool) -> Owned 
 
     while search.dropped(|owned| &mut owned.text)
         | search.dropped(|owned| &mut owned.tag)
+        | search.dropped(|owned| &mut owned.second)
         | search.plainer()
         | search.lower()
     {}
@@ -133,6 +140,16 @@ impl<F: FnMut(Case<'_>) -> bool> Search<F> {
                 let mut candidate = self.least.clone();
                 candidate.number = number;
                 any |= self.keep(candidate);
+            }
+        }
+
+        for i in 0..4 {
+            for n in [0, 1] {
+                if n < self.least.numbers[i] {
+                    let mut candidate = self.least.clone();
+                    candidate.numbers[i] = n;
+                    any |= self.keep(candidate);
+                }
             }
         }
 

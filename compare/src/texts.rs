@@ -108,6 +108,11 @@ pub fn every(alphabet: &[u8], len: usize, mut f: impl FnMut(&[u8])) {
     }
 }
 
+/// A text of so many bytes, those of an alphabet in turn, so that a byte copied from another place is seen.
+pub fn turns(alphabet: &[u8], len: usize) -> Vec<u8> {
+    alphabet.iter().copied().cycle().take(len).collect()
+}
+
 /// One to three damages: a byte changed, bytes put in, taken out or doubled, or the text cut.
 pub fn damage(dice: &mut Dice, text: &mut Vec<u8>, marks: &[u8]) {
     for _ in 0..dice.between(1, 3) {

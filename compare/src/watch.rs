@@ -41,7 +41,9 @@ pub fn begins(call: Call, case: Case<'_>) {
 const EMPTY: Case<'static> = Case {
     text: b"",
     tag: b"",
+    second: b"",
     number: 0,
+    numbers: [0; 4],
     out: 0,
     bounds: crate::case::Given::Own,
     slack: crate::case::Slack::Full,

@@ -75,6 +75,11 @@ pub fn written(text: &[u8], room: usize) -> String {
     }
 }
 
+/// What a writer answers that refuses by a number, and what it leaves in its room.
+pub fn refused(number: u8, room: usize) -> String {
+    format!("! {number} {} ", hex(&vec![FILL; room]))
+}
+
 /// Numbers that look random and are the same each time: xorshift, Marsaglia 2003.
 pub struct Dice(u64);
 

@@ -8,6 +8,9 @@
 mod leaves;
 mod list;
 mod reading;
+#[path = "../src/sheet.rs"]
+mod sheet;
+mod writing;
 
 use std::{env, fs, process};
 
@@ -29,6 +32,10 @@ fn main() {
     reading::columns(&mut list);
     reading::attributes(&mut list);
     reading::directives(&mut list);
+    writing::unfolding(&mut list);
+    writing::records(&mut list);
+    writing::comments(&mut list);
+    writing::directives(&mut list);
 
     println!("{} cases", list.len());
     fs::write(cases, list.cases()).expect("the cases are written");

@@ -117,6 +117,29 @@ pub struct BuildValue {
     pub name_end: usize,
 }
 
+#[repr(C)]
+pub struct Unfolded {
+    pub refused: u64,
+    pub length: usize,
+    pub start: u64,
+    pub end: u64,
+    pub strand: u32,
+    pub phase: u32,
+}
+
+#[repr(C)]
+#[derive(Default)]
+pub struct DirectiveValue {
+    pub kind: u32,
+    pub major: u32,
+    pub has_minor: u32,
+    pub minor: u32,
+    pub has_patch: u32,
+    pub patch: u32,
+    pub start: u64,
+    pub end: u64,
+}
+
 unsafe extern "C" {
     pub fn gff3_next_line(text: *const u8, text_len: usize, at: usize) -> Line;
     pub fn gff3_kind(line: *const u8, line_len: usize) -> u32;
@@ -147,4 +170,28 @@ unsafe extern "C" {
     pub fn gff3_decode(text: *const u8, text_len: usize, out: *mut u8, out_len: usize) -> Written;
     pub fn gff3_encode(set: u32, text: *const u8, text_len: usize, out: *mut u8, out_len: usize) -> Written;
     pub fn gff3_position(text: *const u8, text_len: usize) -> Number;
+    pub fn gff3_judge(line: *const u8, line_len: usize) -> Unfolded;
+    pub fn gff3_unfold(line: *const u8, line_len: usize, sheet: *mut u8, sheet_len: usize) -> Unfolded;
+    pub fn gff3_write_record(
+        sheet: *const u8,
+        sheet_len: usize,
+        start: u64,
+        end: u64,
+        strand: u32,
+        phase: u32,
+        out: *mut u8,
+        out_len: usize,
+    ) -> Written;
+    pub fn gff3_write_directive(
+        key: *const u8,
+        key_len: usize,
+        value: DirectiveValue,
+        first: *const u8,
+        first_len: usize,
+        second: *const u8,
+        second_len: usize,
+        out: *mut u8,
+        out_len: usize,
+    ) -> Written;
+    pub fn gff3_write_comment(text: *const u8, text_len: usize, out: *mut u8, out_len: usize) -> Written;
 }

@@ -1,10 +1,12 @@
-//! GFF3 lines, read with proof.
+//! GFF3 lines, read and written with proof.
 //!
 //! A text is cut into lines, a line is a directive, a comment or a record, and a record has nine columns, of which the last holds
 //! attributes. Each of these is a type here that borrows the text; what is percent-encoded is decoded into a `Vec` when it is asked for.
-//! Nothing panics, whatever the bytes. A reader that cannot answer gives a [`Refusal`].
+//! Nothing panics, whatever the bytes. A reader or a writer that cannot answer gives a [`Refusal`].
 //!
-//! The answers are those of a library of proved functions, which this crate links: see `crates/exports`.
+//! To change a record, it is taken apart into a [`Sheet`], which owns its texts, decoded, and writes the line anew.
+//!
+//! The answers are those of a library of proved functions, which this crate links: see the crates `export_lines` to `export_write`.
 //!
 //! ```
 //! let text = b"##gff-version 3\nsq0\tlab\tgene\t8\t13\t.\t+\t.\tID=g%2C1\n";
@@ -27,6 +29,8 @@ mod ffi;
 mod line;
 mod record;
 mod refusal;
+mod sheet;
+mod writing;
 
 pub use attributes::{Attributes, Field, Fields, Values};
 pub use coding::{Set, decode, encode, position};
@@ -34,3 +38,5 @@ pub use directive::{Build, Region, Version};
 pub use line::{Directive, Kind, Line, Lines, lines};
 pub use record::{Bounds, Column, Phase, Record, Strand};
 pub use refusal::Refusal;
+pub use sheet::{Judged, Sheet, judge};
+pub use writing::{Value, write_comment, write_directive};

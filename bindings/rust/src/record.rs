@@ -78,6 +78,18 @@ pub enum Strand {
     Unknown,
 }
 
+impl Strand {
+    /// The strand of the library's number.
+    pub(crate) fn of(number: u64) -> Self {
+        match number {
+            0 => Strand::None,
+            1 => Strand::Forward,
+            2 => Strand::Reverse,
+            _ => Strand::Unknown,
+        }
+    }
+}
+
 /// A phase: how many bases to pass over to the next codon.
 ///
 /// ```
@@ -94,6 +106,18 @@ pub enum Phase {
     One,
     /// `2`
     Two,
+}
+
+impl Phase {
+    /// The phase of the library's number, or none.
+    pub(crate) fn of(number: u64) -> Option<Self> {
+        match number {
+            0 => Some(Phase::Zero),
+            1 => Some(Phase::One),
+            2 => Some(Phase::Two),
+            _ => None,
+        }
+    }
 }
 
 /// A line of nine columns, and where they end.
@@ -285,12 +309,7 @@ impl<'a> Record<'a> {
     pub fn strand(&self) -> Result<Strand, Refusal> {
         // SAFETY: the line is a slice.
         let strand = unsafe { ffi::gff3_strand(self.line.as_ptr(), self.line.len(), self.bounds) };
-        Ok(match number(strand)? {
-            0 => Strand::None,
-            1 => Strand::Forward,
-            2 => Strand::Reverse,
-            _ => Strand::Unknown,
-        })
+        Ok(Strand::of(number(strand)?))
     }
 
     /// Column 8, and `None` for a dot. Refusal 4: not a phase.
@@ -305,12 +324,7 @@ impl<'a> Record<'a> {
     pub fn phase(&self) -> Result<Option<Phase>, Refusal> {
         // SAFETY: the line is a slice.
         let phase = unsafe { ffi::gff3_phase(self.line.as_ptr(), self.line.len(), self.bounds) };
-        Ok(match number(phase)? {
-            0 => Some(Phase::Zero),
-            1 => Some(Phase::One),
-            2 => Some(Phase::Two),
-            _ => None,
-        })
+        Ok(Phase::of(number(phase)?))
     }
 
     /// Column 9.

@@ -1,4 +1,4 @@
-//! Why a reader does not answer.
+//! Why a reader or a writer does not answer.
 
 use std::{error, fmt};
 
@@ -43,8 +43,13 @@ impl fmt::Display for Refusal {
             15 => "build source missing",
             16 => "build name missing",
             17 => "not a score",
+            18 => "the type is `CDS`, and there is no phase",
+            19 => "the key holds white space",
+            20 => "a text is empty, or holds a byte that it may not",
+            21 => "the value is not of the key",
             22 => "the output is longer than the buffer",
-            24 => "the text to encode has over 1,048,576 bytes",
+            23 => "not a sheet",
+            24 => "the line or the text is too long",
             _ => "refused",
         };
         write!(f, "{reason} (refusal {})", self.0)

@@ -8,11 +8,9 @@ use columns::Bounds;
 use columns::Column;
 use columns::ColumnRead;
 use columns::Indexed;
-use columns::Phase;
 use columns::PhaseRead;
 use columns::PositionRead;
 use columns::ScoreRead;
-use columns::Strand;
 use columns::StrandRead;
 
 fn eight(b: Bounds) {
@@ -51,24 +49,14 @@ fn score(s: &[u8], answer: ScoreRead) {
 
 fn strand(answer: StrandRead) {
     match answer {
-        StrandRead::Is(which) => match which {
-            Strand::None => show::number(0),
-            Strand::Forward => show::number(1),
-            Strand::Reverse => show::number(2),
-            Strand::Unknown => show::number(3),
-        },
+        StrandRead::Is(which) => show::number(columns::strand_number(which) as u64),
         StrandRead::Refused(n) => show::refused(n),
     }
 }
 
 fn phase(answer: PhaseRead) {
     match answer {
-        PhaseRead::Is(which) => match which {
-            Phase::Zero => show::number(0),
-            Phase::One => show::number(1),
-            Phase::Two => show::number(2),
-            Phase::None => show::number(3),
-        },
+        PhaseRead::Is(which) => show::number(columns::phase_number(which) as u64),
         PhaseRead::Refused(n) => show::refused(n),
     }
 }

@@ -9,6 +9,7 @@ mod leaves;
 mod line_cases;
 mod show;
 mod words;
+mod writing_cases;
 
 use lines::Cursor;
 use lines::Next;
@@ -44,6 +45,11 @@ fn answer<'a>(line: &'a [u8], text: &'a [u8], other: &'a [u8]) {
         Case::Version => directive_cases::version(text),
         Case::Region => directive_cases::region(text),
         Case::Build => directive_cases::build(text),
+        Case::Judge => writing_cases::judge(text),
+        Case::Unfold => writing_cases::unfold_line(line, text),
+        Case::WriteRecord => writing_cases::record_line(line, text),
+        Case::WriteComment => writing_cases::comment(line, text),
+        Case::WriteDirective => writing_cases::directive(line, text, other),
         Case::Unknown => show::word(b"?"),
     }
 }

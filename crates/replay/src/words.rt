@@ -25,6 +25,11 @@ pub(crate) enum Case {
     Version,
     Region,
     Build,
+    Judge,
+    Unfold,
+    WriteRecord,
+    WriteComment,
+    WriteDirective,
     Unknown,
 }
 
@@ -55,6 +60,11 @@ pub(crate) fn letter(line: &[u8]) -> Case {
         b'1' => Case::Version,
         b'2' => Case::Region,
         b'3' => Case::Build,
+        b'J' => Case::Judge,
+        b'U' => Case::Unfold,
+        b's' => Case::WriteRecord,
+        b'c' => Case::WriteComment,
+        b'k' => Case::WriteDirective,
         _ => Case::Unknown,
     }
 }

@@ -73,6 +73,25 @@ pub fn whole(mut text: &[u8]) -> (u64, u64) {
     (count, sum)
 }
 
+/// Lines that are read as records and written again, and the sum of the lengths of their new lines; one buffer for all lines.
+/// Calls `rewrite_record` of the API on each line.
+#[inline(never)]
+pub fn records(lines: &[&[u8]]) -> (u64, u64) {
+    let mut dst = Vec::new();
+    let (mut count, mut sum) = (0, 0);
+
+    for line in lines {
+        dst.clear();
+
+        if super::writing::rewrite_record(line, &mut dst).is_ok() {
+            count += 1;
+            sum += dst.len() as u64;
+        }
+    }
+
+    (count, sum)
+}
+
 /// Records of a text that are written again, and the sum of the lengths of their new lines.
 /// Calls the inner `read_line` of io/reader.rs, `Line::kind` of line.rs, and `rewrite_record` of the API.
 #[inline(never)]

@@ -53,6 +53,13 @@ pub enum Typed<'a> {
 
 /// A record's line. Calls `write_record` of io/writer/line/record.rs on a shim's `RecordBuf`.
 pub fn write_record(fields: &Fields<'_>) -> io::Result<Vec<u8>> {
+    let mut dst = Vec::new();
+    put_record(fields, &mut dst)?;
+    Ok(dst)
+}
+
+/// The same behind what `dst` holds; on an error, what was written before it stays.
+pub fn put_record(fields: &Fields<'_>, dst: &mut Vec<u8>) -> io::Result<()> {
     let attributes = fields
         .attributes
         .iter()
@@ -76,9 +83,7 @@ pub fn write_record(fields: &Fields<'_>) -> io::Result<Vec<u8>> {
         builder = builder.set_phase(phase);
     }
 
-    let mut dst = Vec::new();
-    Door::write_record(&mut dst, &builder.build())?;
-    Ok(dst)
+    Door::write_record(dst, &builder.build())
 }
 
 /// A record's line read and written again behind what `dst` holds. Calls `Record::try_new` of record.rs, then `write_record`
@@ -89,6 +94,13 @@ pub fn rewrite_record(line: &[u8], dst: &mut Vec<u8>) -> io::Result<()> {
 
 /// A directive's line. Calls `write_directive` of io/writer/line/directive.rs.
 pub fn write_directive(key: &[u8], value: Typed<'_>) -> io::Result<Vec<u8>> {
+    let mut dst = Vec::new();
+    put_directive(key, value, &mut dst)?;
+    Ok(dst)
+}
+
+/// The same behind what `dst` holds; on an error, what was written before it stays.
+pub fn put_directive(key: &[u8], value: Typed<'_>, dst: &mut Vec<u8>) -> io::Result<()> {
     let value = match value {
         Typed::None => None,
         Typed::String(text) => Some(Value::String(text.into())),
@@ -101,9 +113,7 @@ pub fn write_directive(key: &[u8], value: Typed<'_>) -> io::Result<Vec<u8>> {
         Typed::Build(source, name) => Some(Value::GenomeBuild(GenomeBuild::new(source, name))),
     };
 
-    let mut dst = Vec::new();
-    Door::write_directive(&mut dst, &DirectiveBuf::new(key, value))?;
-    Ok(dst)
+    Door::write_directive(dst, &DirectiveBuf::new(key, value))
 }
 
 /// A comment's line. Calls `write_comment` of io/writer/line/comment.rs.

@@ -1,0 +1,58 @@
+/* Moves the records of a GFF3 text by 1,000 bases: reads each line, changes its start and end, and writes it again. Directives and
+ * comments stay as they are, and a line that is refused is written as `! ` and the number. */
+#include "gff3_lines.h"
+
+#include <inttypes.h>
+#include <stdio.h>
+#include <string.h>
+
+static const char annotation[] =
+    "##gff-version 3\n"
+    "# a gene, a part of it, and lines that are refused\n"
+    "chr%201\tlab\tgene\t1050\t9000\t.\t+\t.\tID=gene%2c1;b;Name=EDEN,eden\n"
+    "chr%201\tlab\tCDS\t0001201\t1500\t-1.50e3\t+\t0\tParent=gene%2c1\r\n"
+    "chr%201\tlab\tCDS\t1201\t1500\t.\t+\t.\tParent=gene%2c1\n"
+    "chr%201\tlab\texon\t1\t2\t.\t+\t.\tID\n"
+    "chr%201\tlab\n";
+
+enum { ROOM = 4096 };
+
+/* Writes the line of a record that is moved, and answers the number of the first refusal, or 0. */
+static uint64_t print_shifted(const uint8_t *line, size_t len)
+{
+    uint8_t sheet[ROOM];
+    uint8_t moved[ROOM];
+
+    const gff3_unfolded record = gff3_unfold(line, len, sheet, sizeof sheet);
+    if (record.refused != 0) {
+        return record.refused;
+    }
+    const gff3_written written = gff3_write_record(sheet, record.length, record.start + 1000, record.end + 1000, record.strand,
+                                                   record.phase, moved, sizeof moved);
+    if (written.refused != 0) {
+        return written.refused;
+    }
+    printf("%.*s\n", (int)written.length, (const char *)moved);
+    return 0;
+}
+
+int main(void)
+{
+    const uint8_t *text = (const uint8_t *)annotation;
+    const size_t len = strlen(annotation);
+
+    for (gff3_line line = gff3_next_line(text, len, 0); !line.done; line = gff3_next_line(text, len, line.next)) {
+        const uint8_t *bytes = text + line.start;
+        const size_t count = line.end - line.start;
+
+        if (gff3_kind(bytes, count) != GFF3_RECORD) {
+            printf("%.*s\n", (int)count, (const char *)bytes);
+            continue;
+        }
+        const uint64_t refused = print_shifted(bytes, count);
+        if (refused != 0) {
+            printf("! %" PRIu64 "\n", refused);
+        }
+    }
+    return 0;
+}

@@ -1,0 +1,192 @@
+//! A record taken apart, and written again.
+
+use crate::{Phase, Refusal, Strand, coding::filled, ffi};
+
+/// The field sheet of a record: its fields, which own their texts, decoded.
+///
+/// ```
+/// use gff3_lines::{Sheet, Strand};
+///
+/// let mut sheet = Sheet::of_line(b"sq0\tlab\tgene\t8\t13\t.\t+\t.\tID=a%2Cb")?;
+/// assert_eq!(sheet.attributes, [(b"ID".to_vec(), vec![b"a,b".to_vec()])]);
+///
+/// sheet.reference_sequence_name = b"sq 1".to_vec();
+/// sheet.strand = Strand::Reverse;
+/// assert_eq!(sheet.line()?, b"sq%201\tlab\tgene\t8\t13\t.\t-\t.\tID=a%2Cb");
+/// # Ok::<(), gff3_lines::Refusal>(())
+/// ```
+#[derive(Clone, Debug, PartialEq, Eq, Hash)]
+pub struct Sheet {
+    /// Column 1.
+    pub reference_sequence_name: Vec<u8>,
+    /// Column 2.
+    pub source: Vec<u8>,
+    /// Column 3.
+    pub ty: Vec<u8>,
+    /// Column 4, from 1 on.
+    pub start: u64,
+    /// Column 5, from 1 on; it may lie before the start.
+    pub end: u64,
+    /// Column 6: the token as it stands. A score without a byte is written as none.
+    pub score: Option<Vec<u8>>,
+    /// Column 7.
+    pub strand: Strand,
+    /// Column 8.
+    pub phase: Option<Phase>,
+    /// Column 9: each tag and its values, of which there is one at least.
+    pub attributes: Vec<(Vec<u8>, Vec<Vec<u8>>)>,
+}
+
+impl Sheet {
+    /// The fields of a line without its line feed, taken as a record without a look at its kind. Refusals, in order: 24, it has over
+    /// 4,194,304 bytes; 1, fewer than eight tabs; 2, not a position; 17, not a score; 3, not a strand; 4, not a phase; 5, attribute text
+    /// is left without `=`.
+    ///
+    /// ```
+    /// use gff3_lines::{Sheet, Refusal};
+    ///
+    /// assert_eq!(Sheet::of_line(b"sq0"), Err(Refusal(1)));
+    /// assert_eq!(Sheet::of_line(b"sq0\t\t\t0\t\t\t\t\t"), Err(Refusal(2)));
+    /// ```
+    pub fn of_line(line: &[u8]) -> Result<Self, Refusal> {
+        let mut sheet = vec![0; judge(line)?.length];
+        // SAFETY: the line is a slice, and the buffer another.
+        let unfolded = unsafe { ffi::gff3_unfold(line.as_ptr(), line.len(), sheet.as_mut_ptr(), sheet.len()) };
+        Refusal::check(unfolded.refused)?;
+        let rest = &mut &sheet[..];
+        let [reference_sequence_name, source, ty, score] = std::array::from_fn(|_| take_text(rest));
+        let attributes = (0..take_count(rest))
+            .map(|_| {
+                (
+                    take_text(rest),
+                    (0..take_count(rest)).map(|_| take_text(rest)).collect(),
+                )
+            })
+            .collect();
+        Ok(Sheet {
+            reference_sequence_name,
+            source,
+            ty,
+            start: unfolded.start,
+            end: unfolded.end,
+            score: (!score.is_empty()).then_some(score),
+            strand: Strand::of(unfolded.strand.into()),
+            phase: Phase::of(unfolded.phase.into()),
+            attributes,
+        })
+    }
+
+    /// The line of the fields, without a line feed. Refusals, in order: 24, the fields come to over 1,048,576 bytes; 23, an attribute has
+    /// no value; 2, a position of zero; 17, not a score; 18, the type is `CDS`, and there is no phase.
+    ///
+    /// ```
+    /// use gff3_lines::{Sheet, Refusal};
+    ///
+    /// let mut sheet = Sheet::of_line(b"sq0\tlab\tgene\t8\t13\t.\t+\t.\tID=a")?;
+    /// sheet.ty = b"CDS".to_vec();
+    ///
+    /// assert_eq!(sheet.line(), Err(Refusal(18)));
+    /// # Ok::<(), Refusal>(())
+    /// ```
+    pub fn line(&self) -> Result<Vec<u8>, Refusal> {
+        let sheet = self.bytes();
+        let phase = self.phase.map_or(3, |phase| phase as u32);
+        // SAFETY: the sheet is a slice, and the buffer another.
+        filled(|out| unsafe {
+            ffi::gff3_write_record(
+                sheet.as_ptr(),
+                sheet.len(),
+                self.start,
+                self.end,
+                self.strand as u32,
+                phase,
+                out.as_mut_ptr(),
+                out.len(),
+            )
+        })
+    }
+
+    /// The bytes of the sheet, as `bindings/c/gff3_lines.h` says it.
+    fn bytes(&self) -> Vec<u8> {
+        let score = self.score.as_deref().unwrap_or_default();
+        let mut sheet = Vec::new();
+        for text in [&self.reference_sequence_name, &self.source, &self.ty, score] {
+            put_text(&mut sheet, text);
+        }
+        put_count(&mut sheet, self.attributes.len());
+        for (tag, values) in &self.attributes {
+            put_text(&mut sheet, tag);
+            put_count(&mut sheet, values.len());
+            for value in values {
+                put_text(&mut sheet, value);
+            }
+        }
+        sheet
+    }
+}
+
+/// What [`judge`] says of a line that is not refused.
+///
+/// ```
+/// let judged = gff3_lines::judge(b"sq0\tlab\tgene\t8\t13\t.\t+\t.\tID=a")?;
+///
+/// assert_eq!((judged.start, judged.end), (8, 13));
+/// # Ok::<(), gff3_lines::Refusal>(())
+/// ```
+#[derive(Clone, Copy, Debug, PartialEq, Eq, Hash)]
+pub struct Judged {
+    /// Column 4.
+    pub start: u64,
+    /// Column 5.
+    pub end: u64,
+    /// Column 7.
+    pub strand: Strand,
+    /// Column 8.
+    pub phase: Option<Phase>,
+    /// The bytes of the sheet that the line unfolds into.
+    pub length: usize,
+}
+
+/// Whether a line can be taken apart into [`Sheet`], with its numbers and nothing allocated. The refusals are those of
+/// [`Sheet::of_line`].
+///
+/// ```
+/// use gff3_lines::{Refusal, judge};
+///
+/// assert_eq!(judge(b"sq0\tlab\tgene\t8\t13\t.\t+\t.\tID"), Err(Refusal(5)));
+/// ```
+pub fn judge(line: &[u8]) -> Result<Judged, Refusal> {
+    // SAFETY: the line is a slice.
+    let judged = unsafe { ffi::gff3_judge(line.as_ptr(), line.len()) };
+    Refusal::check(judged.refused)?;
+    Ok(Judged {
+        start: judged.start,
+        end: judged.end,
+        strand: Strand::of(judged.strand.into()),
+        phase: Phase::of(judged.phase.into()),
+        length: judged.length,
+    })
+}
+
+/// A count of four bytes. Where the count is greater, the sheet is too long to be written.
+fn put_count(sheet: &mut Vec<u8>, n: usize) {
+    sheet.extend((n as u32).to_le_bytes());
+}
+
+fn put_text(sheet: &mut Vec<u8>, text: &[u8]) {
+    put_count(sheet, text.len());
+    sheet.extend(text);
+}
+
+/// The next count of a sheet that the library laid.
+fn take_count(rest: &mut &[u8]) -> usize {
+    rest.split_off(..4)
+        .and_then(|count| count.try_into().ok())
+        .map_or(0, |count| u32::from_le_bytes(count) as usize)
+}
+
+/// The next text of a sheet that the library laid.
+fn take_text(rest: &mut &[u8]) -> Vec<u8> {
+    let n = take_count(rest);
+    rest.split_off(..n).unwrap_or_default().to_vec()
+}

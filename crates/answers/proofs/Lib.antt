@@ -1,0 +1,2 @@
+pub mod AnswersLaws
+mod Unique

@@ -1,0 +1,13 @@
+-- Each public function's promise allows one result. Assumes nothing.
+use mathlib.Core.Path.{sym, _∙_}
+use Rattle.lists.proofs.One.{OneResult}
+use Rattle.answers.proofs.position_of.Kinds as position-kinds
+use Rattle.answers.proofs.position_of.Reads as position
+use Rattle.answers.proofs.written_of.Kinds as written-kinds
+use Rattle.answers.proofs.written_of.Reads as written
+
+position-one : OneResult 0 position-kinds.ps position-kinds.r position.Post
+position-one κs a x y s t p q = p ∙ sym q
+
+written-one : OneResult 0 written-kinds.ps written-kinds.r written.Post
+written-one κs a x y s t p q = p ∙ sym q

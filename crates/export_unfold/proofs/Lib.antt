@@ -1,0 +1,2 @@
+pub mod UnfoldLaws
+mod Unique

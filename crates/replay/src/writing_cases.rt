@@ -1,0 +1,121 @@
+// Cases of unfolding and writing.
+use super::show;
+use super::words;
+use directives::GffVersion;
+use directives::Part;
+use marks::Value;
+use unfold::Judged;
+use unfold::Numbers;
+use unfold::Unfolded;
+
+// The largest buffer that a case lends.
+const ROOM: usize = 512;
+
+fn numbers(n: Numbers) {
+    let which = n.strand;
+    let shift = n.phase;
+    show::number(n.start);
+    show::number(n.end);
+    show::number(columns::strand_number(which) as u64);
+    show::number(columns::phase_number(shift) as u64)
+}
+
+// J LINE: the sheet's length, and start, end, strand and phase
+pub(crate) fn judge(text: &[u8]) {
+    match unfold::judge(text) {
+        Judged::Is(n, length) => {
+            show::number(length as u64);
+            numbers(n)
+        }
+        Judged::Refused(n) => show::refused(n),
+    }
+}
+
+fn unfolded(answer: Unfolded) {
+    match answer {
+        Unfolded::Done(n, length) => {
+            show::word(b"=");
+            show::number(length as u64);
+            numbers(n)
+        }
+        Unfolded::Refused(n) => show::refused(n),
+        Unfolded::NoRoom(length) => {
+            show::word(b"! 22");
+            show::number(length as u64)
+        }
+    }
+}
+
+// U LINE ROOM: the same, and the whole buffer
+pub(crate) fn unfold_line(line: &[u8], text: &[u8]) {
+    let mut room = [170u8; ROOM];
+    let size = words::number(line, 2) as usize;
+    unfolded(unfold::unfold(text, words::front(&mut room, size)));
+    show::hex(scan::part(&room, 0, size))
+}
+
+// c TEXT ROOM
+pub(crate) fn comment(line: &[u8], text: &[u8]) {
+    let mut room = [170u8; ROOM];
+    let size = words::number(line, 2) as usize;
+    let answer = marks::write_comment(text, words::front(&mut room, size));
+    show::written(answer, scan::part(&room, 0, size))
+}
+
+fn short(n: u64) -> u32 {
+    (n % 4294967296) as u32
+}
+
+// A part of a version, where it is there.
+fn part(there: u64, n: u64) -> Part {
+    if there == 0 {
+        return Part::Absent;
+    }
+    Part::Is(short(n))
+}
+
+// The value that words 5 to 10 say: its kind, start or major, end, and whether there is a minor, the minor, and so for the patch.
+fn value(line: &[u8]) -> Value {
+    match words::number(line, 5) {
+        1 => Value::Text,
+        2 => Value::Version(GffVersion {
+            major: short(words::number(line, 6)),
+            minor: part(words::number(line, 7), words::number(line, 8)),
+            patch: part(words::number(line, 9), words::number(line, 10)),
+        }),
+        3 => Value::Region(words::number(line, 6), words::number(line, 7)),
+        4 => Value::Build,
+        _ => Value::None,
+    }
+}
+
+// k KEY FIRST SECOND ROOM and the value
+pub(crate) fn directive(line: &[u8], key: &[u8], first: &[u8]) {
+    let mut second = [0u8; ROOM];
+    let n = words::unhex(line, 3, &mut second);
+    let mut room = [170u8; ROOM];
+    let size = words::number(line, 4) as usize;
+    let answer = marks::write_directive(
+        key,
+        value(line),
+        first,
+        scan::part(&second, 0, n),
+        words::front(&mut room, size),
+    );
+    show::written(answer, scan::part(&room, 0, size))
+}
+
+// s SHEET START END STRAND PHASE ROOM
+pub(crate) fn record_line(line: &[u8], sheet: &[u8]) {
+    let mut room = [170u8; ROOM];
+    let size = words::number(line, 6) as usize;
+    let answer = record::write_record(
+        sheet,
+        words::number(line, 2),
+        words::number(line, 3),
+        short(words::number(line, 4)),
+        short(words::number(line, 5)),
+        words::front(&mut room, size),
+    );
+    show::written(answer, scan::part(&room, 0, size))
+}
