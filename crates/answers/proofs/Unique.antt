@@ -5,19 +5,9 @@ use Rattle.answers.proofs.position_of.Kinds as position-kinds
 use Rattle.answers.proofs.position_of.Reads as position
 use Rattle.answers.proofs.written_of.Kinds as written-kinds
 use Rattle.answers.proofs.written_of.Reads as written
-use Rattle.answers.proofs.strand_number.Kinds as strand-kinds
-use Rattle.answers.proofs.strand_number.Reads as strand
-use Rattle.answers.proofs.phase_number.Kinds as phase-kinds
-use Rattle.answers.proofs.phase_number.Reads as phase
 
 position-one : OneResult 0 position-kinds.ps position-kinds.r position.Post
 position-one κs a x y s t p q = p ∙ sym q
 
 written-one : OneResult 0 written-kinds.ps written-kinds.r written.Post
 written-one κs a x y s t p q = p ∙ sym q
-
-strand-one : OneResult 0 strand-kinds.ps strand-kinds.r strand.Post
-strand-one κs a x y s t p q = p ∙ sym q
-
-phase-one : OneResult 0 phase-kinds.ps phase-kinds.r phase.Post
-phase-one κs a x y s t p q = p ∙ sym q

@@ -3,11 +3,8 @@
 //
 // Proved: each answer is that of one definition for each enum, which gives document 01's number and values for each case. Assumes nothing.
 use buffer::Written;
-use columns::Phase;
 use columns::PositionRead;
-use columns::Strand;
 ghost use mathlib.Core.Path.{_≡_};
-ghost use Rattle.columns.specs.Fields.{strandNumber, phaseNumber};
 ghost use Rattle.answers.specs.Answers.{positionOf, writtenOf};
 
 #[repr(C)]
@@ -53,29 +50,5 @@ pub fn written_of(written: Written) -> Gff3Written
             refused: 22,
             length: n,
         },
-    }
-}
-
-// 0 to 3 for `.` `+` `-` `?`.
-pub fn strand_number(strand: Strand) -> u32
-    ensures { λ r. ⌜ r ≡ strandNumber strand ⌝ }
-{
-    match strand {
-        Strand::None => 0,
-        Strand::Forward => 1,
-        Strand::Reverse => 2,
-        Strand::Unknown => 3,
-    }
-}
-
-// 0 to 2, and 3 for none.
-pub fn phase_number(phase: Phase) -> u32
-    ensures { λ r. ⌜ r ≡ phaseNumber phase ⌝ }
-{
-    match phase {
-        Phase::Zero => 0,
-        Phase::One => 1,
-        Phase::Two => 2,
-        Phase::None => 3,
     }
 }

@@ -23,10 +23,14 @@ use Rattle.columns.proofs.strand.strand_of.Kinds as strand-of-kinds
 use Rattle.columns.proofs.strand.strand_of.Reads as strand-of
 use Rattle.columns.proofs.strand.strand_at.Kinds as strand-at-kinds
 use Rattle.columns.proofs.strand.strand_at.Reads as strand-at
+use Rattle.columns.proofs.strand.strand_number.Kinds as strand-number-kinds
+use Rattle.columns.proofs.strand.strand_number.Reads as strand-number
 use Rattle.columns.proofs.phase.phase_of.Kinds as phase-of-kinds
 use Rattle.columns.proofs.phase.phase_of.Reads as phase-of
 use Rattle.columns.proofs.phase.phase_at.Kinds as phase-at-kinds
 use Rattle.columns.proofs.phase.phase_at.Reads as phase-at
+use Rattle.columns.proofs.phase.phase_number.Kinds as phase-number-kinds
+use Rattle.columns.proofs.phase.phase_number.Reads as phase-number
 use Rattle.columns.proofs.texts.reference_sequence_name.Kinds as reference-sequence-name-kinds
 use Rattle.columns.proofs.texts.reference_sequence_name.Reads as reference-sequence-name
 use Rattle.columns.proofs.texts.source.Kinds as source-kinds
@@ -64,11 +68,17 @@ strand-of-one κs a x y s t p q = p ∙ sym q
 strand-at-one : OneResult 1 strand-at-kinds.ps strand-at-kinds.r strand-at.Post
 strand-at-one κs a x y s t p q = p ∙ sym q
 
+strand-number-one : OneResult 0 strand-number-kinds.ps strand-number-kinds.r strand-number.Post
+strand-number-one κs a x y s t p q = p ∙ sym q
+
 phase-of-one : OneResult 1 phase-of-kinds.ps phase-of-kinds.r phase-of.Post
 phase-of-one κs a x y s t p q = p ∙ sym q
 
 phase-at-one : OneResult 1 phase-at-kinds.ps phase-at-kinds.r phase-at.Post
 phase-at-one κs a x y s t p q = p ∙ sym q
+
+phase-number-one : OneResult 0 phase-number-kinds.ps phase-number-kinds.r phase-number.Post
+phase-number-one κs a x y s t p q = p ∙ sym q
 
 reference-sequence-name-one : One 2 reference-sequence-name-kinds.ps reference-sequence-name-kinds.r reference-sequence-name.Post (λ κs x. x) (λ κs s. now (s .1 .1 .0))
 reference-sequence-name-one κs a x y s t p q = wrote-one p q

@@ -2,7 +2,7 @@
 use super::bounds::Bounds;
 use super::column::Column;
 ghost use mathlib.Core.Path.{_≡_};
-ghost use Rattle.columns.specs.Fields.{phaseText, phaseAt};
+ghost use Rattle.columns.specs.Fields.{phaseNumber, phaseText, phaseAt};
 
 // Document 01's numbers 0 to 3, in this order.
 pub enum Phase {
@@ -43,5 +43,17 @@ pub fn phase_at(line: &[u8], bounds: Bounds) -> PhaseRead
         phase_of(super::column::text(line, bounds, Column::Phase))
     } else {
         PhaseRead::Refused(1)
+    }
+}
+
+// Document 01's number of a phase: 3 for none.
+pub fn phase_number(phase: Phase) -> u32
+    ensures { λ r. ⌜ r ≡ phaseNumber phase ⌝ }
+{
+    match phase {
+        Phase::Zero => 0,
+        Phase::One => 1,
+        Phase::Two => 2,
+        Phase::None => 3,
     }
 }

@@ -2,7 +2,7 @@
 use super::bounds::Bounds;
 use super::column::Column;
 ghost use mathlib.Core.Path.{_≡_};
-ghost use Rattle.columns.specs.Fields.{strandText, strandAt};
+ghost use Rattle.columns.specs.Fields.{strandNumber, strandText, strandAt};
 
 // Document 01's numbers 0 to 3, in this order.
 pub enum Strand {
@@ -46,5 +46,17 @@ pub fn strand_at(line: &[u8], bounds: Bounds) -> StrandRead
         strand_of(super::column::text(line, bounds, Column::Strand))
     } else {
         StrandRead::Refused(1)
+    }
+}
+
+// Document 01's number of a strand.
+pub fn strand_number(strand: Strand) -> u32
+    ensures { λ r. ⌜ r ≡ strandNumber strand ⌝ }
+{
+    match strand {
+        Strand::None => 0,
+        Strand::Forward => 1,
+        Strand::Reverse => 2,
+        Strand::Unknown => 3,
     }
 }

@@ -7,7 +7,7 @@ use lib.ListN.{length, length-append}
 use Rattle.lists.specs.Bytes.{Every}
 use Rattle.lines.specs.Lines.{lines-after, lines, text, OneLine}
 use Rattle.demands.specs.Damage.{Chunk, arrived, read}
-use Rattle.lines.proofs.LinesLaws.{lines-text, lines-append}
+use Rattle.lines.proofs.LinesLaws.{text-append, lines-text, lines-append}
 
 -- ── by parts ──────────────────────────────────────────────────────────────────────────────────
 
@@ -50,11 +50,6 @@ text-ends (l ∷ []) h = (l, refl)
 text-ends (l ∷ k ∷ ls) h =
     let rest = text-ends (k ∷ ls) (simp length-append (omega arith)) in
     (l ++ 10 ∷ rest .0, rw (rest .1, append-assoc))
-
-pub text-append : (ls ms : List (List ℕ)) → text (ls ++ ms) ≡ text ls ++ text ms
-unfolding text
-text-append [] ms = refl
-text-append (l ∷ ls) ms = rw (text-append ls ms, append-assoc)
 
 -- the text of the lines first, lost and last: of it a and b are kept, and x is replaced by y
 module _ (first lost last : List (List ℕ)) (a x b y : List ℕ) (f : Every OneLine first)

@@ -12,23 +12,11 @@ use Rattle.lines.proofs.LinesLaws.{lines-of-text}
 use Rattle.lines.proofs.StepLaws.{steps-lines}
 use Rattle.demands.specs.Item.{Item, line-of, Accepted, ReadsBack}
 use Rattle.demands.specs.Survivors.{lines-of, text-of, before, after}
+use Rattle.lists.proofs.EveryLaws.{every-each, every-parts}
 use Rattle.demands.specs.Demand.{HandsOut, ReadBack, Survive}
 use Rattle.demands.proofs.ItemLaws.{item-one, item-back}
 use Rattle.demands.proofs.DamageLaws.{stretch-first, stretch-both}
 use Rattle.demands.proofs.SurvivorLaws.{before-fits, after-fits, before-after}
-
-every-right : {A : Type 0} (P : A → Type 0) (a b : List A) → Every P (a ++ b) → Every P b
-every-right P [] b h = h
-every-right P (x ∷ a) b h = every-right P a b (h .1)
-
--- what is so of each is so of the first ones and of the last ones
-every-parts : {A : Type 0} (P : A → Type 0) (a b c : List A) → Every P (a ++ (b ++ c)) → Every P a × Every P c
-every-parts P [] b c h = (tt, every-right P b c h)
-every-parts P (x ∷ a) b c h = let r = every-parts P a b c (h .1) in ((h .0, r .0), r .1)
-
-every-each : {A : Type 0} (P Q : A → Type 0) → ((a : A) → P a → Q a) → (l : List A) → Every P l → Every Q l
-every-each P Q k [] h = tt
-every-each P Q k (a ∷ l) h = (k a (h .0), every-each P Q k l (h .1))
 
 lines-of-append : (a b : List Item) → lines-of (a ++ b) ≡ lines-of a ++ lines-of b
 lines-of-append [] b = refl

@@ -1,4 +1,5 @@
 pub mod Damage
 pub mod Demand
 pub mod Item
+pub mod Samples
 pub mod Survivors

@@ -84,8 +84,8 @@ pub lines-of-text : (ls : List (List ℕ)) → Every OneLine ls → lines (text 
 unfolding lines-after
 lines-of-text ls h = simp append-nil at (lines-text ls [] h)
 
--- bytes x amid lines: what stands before and behind them is read as it was
-pub lines-around : (first last : List (List ℕ)) (x : List ℕ) → Every OneLine first → Every OneLine last
-    → lines (text first ++ (x ++ 10 ∷ text last)) ≡ first ++ (lines (x ++ 10 ∷ []) ++ last)
-lines-around first last x f l =
-    rw (lines-text first (x ++ 10 ∷ text last) f, lines-append x (text last), lines-of-text last l)
+-- lines, and more lines, as a text
+pub text-append : (ls ms : List (List ℕ)) → text (ls ++ ms) ≡ text ls ++ text ms
+unfolding text
+text-append [] ms = refl
+text-append (l ∷ ls) ms = rw (text-append ls ms, append-assoc)

@@ -1,6 +1,6 @@
 -- Laws of tests. Assumes nothing.
 use mathlib.Core.Path.{_≡_, refl, sym}
-use mathlib.Core.Bool.{Bool, true, false, cond, not, _&&_}
+use mathlib.Core.Bool.{Bool, true, false, cond, not, _&&_, _||_}
 use mathlib.Core.List.{List, _++_}
 
 -- a choice between lists, with a list behind it
@@ -17,6 +17,16 @@ pub and-right : (a b : Bool) → (a && b) ≡ true → b ≡ true
 and-right true b e = e
 and-right false true e = refl
 and-right false false e = e
+
+-- both halves of a test that fails
+pub or-left : (a b : Bool) → (a || b) ≡ false → a ≡ false
+or-left false b e = refl
+or-left true b e = e
+
+pub or-right : (a b : Bool) → (a || b) ≡ false → b ≡ false
+or-right false b e = e
+or-right true false e = refl
+or-right true true e = e
 
 -- two tests with one answer, as a test
 abbrev pub agree : Bool → Bool → Bool

@@ -9,6 +9,7 @@ use lib.Dec.{eqb, ltb}
 use lib.ListN.{length}
 use borrow.Author.Tests.{lt-ltb, le-ltb, eqb-false}
 use Rattle.lists.specs.Bytes.{Every, Lacks}
+use Rattle.lists.proofs.BoolLaws.{or-left, or-right}
 use Rattle.lists.proofs.OrderLaws.{le-or-lt}
 use Rattle.scan.specs.Find.{index, seek, is}
 use Rattle.marks.specs.Judge.{holds}
@@ -28,16 +29,6 @@ holds-seek test (x ∷ s) = go (test x) (holds-seek test s)
         → ltb (cond t zero (suc (index test s))) (suc (length s)) ≡ (t || holds test s)
     go true e = lt-ltb 0 (suc (length s)) (omega arith)
     go false e = ltb-suc (index test s) (length s) ∙ e
-
--- both halves of a test that fails
-pub or-left : (a b : Bool) → (a || b) ≡ false → a ≡ false
-or-left false b e = refl
-or-left true b e = e
-
-pub or-right : (a b : Bool) → (a || b) ≡ false → b ≡ false
-or-right false b e = e
-or-right true false e = refl
-or-right true true e = e
 
 -- where none passes, each fails
 pub holds-none : (test : ℕ → Bool) (s : List ℕ) → holds test s ≡ false → Every (λ x. test x ≡ false) s

@@ -6,6 +6,7 @@ use mathlib.Core.List.{List}
 use lib.ListN.{length}
 use borrow.Author.Tests.{ltb-false}
 use Rattle.lists.specs.Bytes.{Every}
+use Rattle.lists.proofs.BoolLaws.{or-left, or-right}
 use Rattle.scan.specs.Word.{isSpace}
 use Rattle.buffer.specs.Answer.{first}
 use Rattle.buffer.proofs.AnswerLaws.{none-holds}
@@ -17,7 +18,7 @@ use Rattle.marks.specs.Version.{version-reasons}
 use Rattle.marks.specs.Region.{region-reasons}
 use Rattle.marks.specs.GenomeBuild.{build-reasons}
 use Rattle.marks.specs.Directive.{Short, directive-reasons}
-use Rattle.marks.proofs.JudgeLaws.{or-left, or-right, holds-none}
+use Rattle.marks.proofs.JudgeLaws.{holds-none}
 
 -- ── a comment ─────────────────────────────────────────────────────────────────────────────────
 

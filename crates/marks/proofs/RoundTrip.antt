@@ -12,6 +12,7 @@ use lib.ListN.{length, getD}
 use borrow.Author.Tests.{eqb-false}
 use Rattle.lists.specs.Bytes.{Every, Lacks}
 use Rattle.lists.proofs.EveryLaws.{every-append}
+use Rattle.lists.proofs.BoolLaws.{or-left, or-right}
 use Rattle.scan.specs.Find.{is}
 use Rattle.scan.specs.Part.{textAt}
 use Rattle.scan.specs.Word.{isSpace}
@@ -41,7 +42,7 @@ use Rattle.marks.specs.Version.{absent, dotted, version-reasons, version
 use Rattle.marks.specs.Region.{region-reasons, region-text}
 use Rattle.marks.specs.GenomeBuild.{build-reasons, build-text}
 use Rattle.marks.specs.Directive.{directive-reasons, tail, directive-line}
-use Rattle.marks.proofs.JudgeLaws.{or-left, or-right, holds-none, holds-lacks}
+use Rattle.marks.proofs.JudgeLaws.{holds-none, holds-lacks}
 use Rattle.marks.proofs.ReasonLaws.{plain, clear, clear-key}
 
 -- ── a comment ─────────────────────────────────────────────────────────────────────────────────

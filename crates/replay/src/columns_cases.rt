@@ -49,14 +49,14 @@ fn score(s: &[u8], answer: ScoreRead) {
 
 fn strand(answer: StrandRead) {
     match answer {
-        StrandRead::Is(which) => show::number(answers::strand_number(which) as u64),
+        StrandRead::Is(which) => show::number(columns::strand_number(which) as u64),
         StrandRead::Refused(n) => show::refused(n),
     }
 }
 
 fn phase(answer: PhaseRead) {
     match answer {
-        PhaseRead::Is(which) => show::number(answers::phase_number(which) as u64),
+        PhaseRead::Is(which) => show::number(columns::phase_number(which) as u64),
         PhaseRead::Refused(n) => show::refused(n),
     }
 }

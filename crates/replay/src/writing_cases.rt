@@ -16,8 +16,8 @@ fn numbers(n: Numbers) {
     let shift = n.phase;
     show::number(n.start);
     show::number(n.end);
-    show::number(answers::strand_number(which) as u64);
-    show::number(answers::phase_number(shift) as u64)
+    show::number(columns::strand_number(which) as u64);
+    show::number(columns::phase_number(shift) as u64)
 }
 
 // J LINE: the sheet's length, and start, end, strand and phase

@@ -19,6 +19,7 @@ use Rattle.columns.specs.declared.phase.Phase.{Phase}
 use Rattle.columns.specs.declared.phase.Phase.the-variants as phase
 use Rattle.columns.specs.declared.phase.PhaseRead.the-variants as phaseRead
 use Rattle.columns.specs.Fields as fields
+use Rattle.lists.proofs.BoolLaws.{or-left, or-right}
 use Rattle.scan.specs.Same.{isDot}
 use Rattle.columns.specs.Fields.{strandNumber, strandText, phaseNumber, phaseText}
 use Rattle.columns.specs.Score.{isScore}
@@ -44,16 +45,6 @@ pub record Accepted (text : List ℕ) (start end strand phase : ℕ) : Type 0 wh
   pub fit-score : badScore sheet ≡ false
   pub strand-known : strand ≤ 3
   pub phase-known : phase ≤ 3
-
--- both halves of a test that fails
-or-left : (a b : Bool) → (a || b) ≡ false → a ≡ false
-or-left false b e = refl
-or-left true b e = e
-
-or-right : (a b : Bool) → (a || b) ≡ false → b ≡ false
-or-right false b e = e
-or-right true false e = refl
-or-right true true e = e
 
 -- a number that is not 0
 some-number : (n : ℕ) → eqb n 0 ≡ false → 1 ≤ n

@@ -1,8 +1,8 @@
 -- `strand_number` answers `strandNumber`, a case at a time. Assumes nothing.
 use borrow.Author.Needs.{needs}
 use Rattle.columns.specs.Fields.{strandNumber}
-use Rattle.answers.proofs.strand_number.Statement.{statement}
-use Rattle.answers.proofs.strand_number.Tie as tie
+use Rattle.columns.proofs.strand.strand_number.Statement.{statement}
+use Rattle.columns.proofs.strand.strand_number.Tie as tie
 
 pub strand-number-spec : {M : Type 1} → statement M
 unfolding strandNumber

@@ -1,8 +1,8 @@
 -- `phase_number` answers `phaseNumber`, a case at a time. Assumes nothing.
 use borrow.Author.Needs.{needs}
 use Rattle.columns.specs.Fields.{phaseNumber}
-use Rattle.answers.proofs.phase_number.Statement.{statement}
-use Rattle.answers.proofs.phase_number.Tie as tie
+use Rattle.columns.proofs.phase.phase_number.Statement.{statement}
+use Rattle.columns.proofs.phase.phase_number.Tie as tie
 
 pub phase-number-spec : {M : Type 1} → statement M
 unfolding phaseNumber

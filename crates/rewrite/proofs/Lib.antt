@@ -1,0 +1,2 @@
+mod RewriteLaws
+pub mod Samples
