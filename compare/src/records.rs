@@ -169,11 +169,19 @@ pub fn sweep(report: &mut Report) {
             }
         }
 
-        let digits = Sheet {
-            score: texts::turns(b"12345678901", len),
-            ..plain()
-        };
-        written_of(report, &digits.bytes(), NUMBERS);
+        // Of few other texts, so that they stand close to the buffer, each in the ways that memory is lent.
+        for _ in 0..4 {
+            let digits = Sheet {
+                score: texts::turns(b"12345678901", len),
+                ..Sheet::default()
+            };
+            let name = Sheet {
+                name: texts::turns(b"abcdefghijk", len),
+                ..Sheet::default()
+            };
+            written_of(report, &digits.bytes(), [1, 1, 0, 3]);
+            written_of(report, &name.bytes(), [1, 1, 0, 3]);
+        }
 
         let mut many = plain();
         many.attributes = vec![(b"a".to_vec(), vec![b"1".to_vec(); len.max(1)]); len];

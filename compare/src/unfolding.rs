@@ -64,6 +64,19 @@ pub fn sweep(report: &mut Report) {
         }
     }
 
+    // Short lines whose texts stand close to the sheet's buffer, each in the ways that memory is lent.
+    for len in 0..=40 {
+        for column in [0, 1, 2, 8] {
+            let text = texts::turns(if column == 8 { b"=abcdefghij" } else { b"abcdefghijk" }, len);
+            let mut columns: [&[u8]; 9] = [b"", b"", b"", b"1", b"1", b".", b".", b".", b""];
+            columns[column] = &text;
+
+            for _ in 0..4 {
+                line_of(report, &columns.join(&b'\t'));
+            }
+        }
+    }
+
     texts::beside_greatest(|number| {
         report.check(Call::Judge, Case::of(&with(4, number.as_bytes())), judge);
         report.check(Call::Judge, Case::of(&with(5, number.as_bytes())), judge);
