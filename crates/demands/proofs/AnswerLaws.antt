@@ -21,7 +21,7 @@ use Rattle.marks.specs.GenomeBuild.{build-reasons}
 use Rattle.marks.specs.Judge as judge
 use Rattle.marks.specs.Region.{region-reasons}
 use Rattle.marks.specs.Version.{version-reasons}
-use Rattle.record.specs.Record.{record-reasons}
+use Rattle.measure.specs.Record.{record-reasons}
 use Rattle.sheet.specs.Sheet.{sheet-of}
 use Rattle.unfold.specs.declared.lay.Unfolded.{Unfolded}
 use Rattle.unfold.specs.declared.lay.Unfolded.the-variants as outcome

@@ -20,7 +20,7 @@ use Rattle.directives.specs.GffVersion.{patchOf, minorOf, versionOf}
 use Rattle.sheet.specs.Reader.{number, times, counted}
 use Rattle.sheet.specs.Sheet.{read-sheet, ended, number-of, section-of, counted-of, sheet-of}
 use Rattle.unfold.specs.Unfold.{judged-by}
-use Rattle.record.specs.Record.{scoreOf, columns, record-reasons, record-line}
+use Rattle.measure.specs.Record.{scoreOf, columns, record-reasons, record-line}
 use Rattle.demands.specs.Samples.{Sample, ascii, samples}
 
 -- a sample, and the rest of the list

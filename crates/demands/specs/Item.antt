@@ -13,7 +13,7 @@ use Rattle.marks.specs.declared.directive.Value.{Value}
 use Rattle.marks.specs.Comment.{comment-reasons, comment-line}
 use Rattle.marks.specs.Directive.{directive-reasons, directive-line}
 use Rattle.marks.proofs.RoundTrip.{value-text, Sized, Back}
-use Rattle.record.specs.Record.{record-reasons, record-line}
+use Rattle.measure.specs.Record.{record-reasons, record-line}
 use Rattle.roundtrip.specs.Reading.{ReadsRecord}
 
 -- a record: its field sheet, and start, end, strand and phase beside it as numbers; a directive: its key, its value, and the two texts that

@@ -26,7 +26,7 @@ use Rattle.directives.specs.GffVersion.{versionOf}
 use Rattle.sheet.specs.Sheet.{Sheet, sheet-of}
 use Rattle.unfold.specs.declared.judging.Judged.the-variants as judge
 use Rattle.unfold.specs.Unfold.{judged}
-use Rattle.record.specs.Record.{record-reasons, record-line}
+use Rattle.measure.specs.Record.{record-reasons, record-line}
 
 -- ── what the list is made of ──────────────────────────────────────────────────────────────────
 

@@ -7,7 +7,7 @@ use directives::GffVersion;
 use directives::Part;
 use marks::Value;
 ghost use mathlib.Core.Path.{_≡_};
-ghost use Rattle.record.specs.Record.{record-reasons, record-line};
+ghost use Rattle.measure.specs.Record.{record-reasons, record-line};
 ghost use Rattle.marks.specs.Comment.{comment-reasons, comment-line};
 ghost use Rattle.marks.specs.Directive.{directive-reasons, directive-line};
 ghost use Rattle.answers.specs.Answers.{Writes};

@@ -1,5 +1,3 @@
-pub mod LedLaws
-pub mod LineLaws
-pub mod LoopLaws
-pub mod PassLaws
+mod LineLaws
+mod LoopLaws
 mod Unique

@@ -16,9 +16,7 @@ use Rattle.sheet.specs.Reader.{counted}
 use Rattle.sheet.specs.Sheet.{Sheet, section, read-attribute, sheet-read}
 use Rattle.sheet.specs.Past.{Passes}
 use Rattle.sheet.proofs.PastLaws.{past-sheet, past-whole}
-use Rattle.record.specs.Record.{strandByteOf, phaseByteOf, scoreOf, columns, line-of, record-line}
-use Rattle.record.specs.declared.Spot.{Spot}
-use Rattle.record.specs.Led.{Measures}
+use Rattle.measure.specs.Record.{strandByteOf, phaseByteOf, scoreOf, columns, line-of, record-line}
 
 -- ── of a sheet ────────────────────────────────────────────────────────────────────────────────
 
@@ -39,12 +37,6 @@ module _ (start end strand phase : ℕ) (s : Sheet) where
   unfolding columns
   line-pieces = rw (append-assoc (decimal start) (9 ∷ decimal end) rest)
 
-  length-line : length (line-of (some s) start end strand phase)
-      ≡ length (encoded (escapes Name) (s .name)) + length (encoded (escapes Column) (s .source)) + length (encoded (escapes Column) (s .type))
-      + length (decimal start) + length (decimal end) + length (scoreOf (s .score)) + length (column (escapes Attribute) (s .attributes)) + 10
-  unfolding columns
-  length-line = simp length-append (omega arith)
-
 -- ── as the sheet is passed ────────────────────────────────────────────────────────────────────
 
 module _ (start end strand phase : ℕ) {s : List ℕ} {b₁ b₂ b₃ b₄ b₅ : ℕ} (sheet : Sheet) (e : sheet-read s ≡ some sheet) where
@@ -62,20 +54,4 @@ module _ (start end strand phase : ℕ) {s : List ℕ} {b₁ b₂ b₃ b₄ b₅
       rw (e, ← line-pieces start end strand phase sheet)
       (past-whole {P = λ x. Lays (pieces start end strand phase x) d at d₇ r₇}
       (past-sheet (λ n o t c l x y z u v. lays-then x (lays-then y (lays-then z (lays-then positions (lays-then u (lays-then signs v)))))) name source type score attributes)
-      sheet e)
-
-  pub line-length : {n : ℕ} {r₁ r₂ r₃ : Spot} {m k : ℕ} → n ≡ 6 + length (decimal start) + length (decimal end)
-      → Passes (λ t. Measures (encoded (escapes Name) t) 4 n r₁) s b₁ (section s)
-      → Passes (λ t. Measures (encoded (escapes Column) t) (b₁ + 4) (r₁ .to + 1) r₂) s b₂ (section (drop b₁ s))
-      → Passes (λ t. Measures (encoded (escapes Column) t) (b₂ + 4) (r₂ .to + 1) r₃) s b₃ (section (drop b₂ s))
-      → Passes (λ t. m ≡ r₃ .to + length (9 ∷ scoreOf t)) s b₄ (section (drop b₃ s))
-      → Passes (λ l. k ≡ m + length (9 ∷ column (escapes Attribute) l)) s b₅ (counted read-attribute (drop b₄ s))
-      → k ≡ length (record-line s start end strand phase)
-  unfolding record-line
-  line-length {n} {r₁} {r₂} {r₃} {m} {k} digits name source type score attributes =
-      rw e
-      (past-whole {P = λ x. k ≡ length (line-of (some x) start end strand phase)}
-      (past-sheet
-      (λ n o t c l x y z u v. omega (arith, x .to, y .to, z .to, length-line start end strand phase (record { name = n; source = o; type = t; score = c; attributes = l })))
-      name source type score attributes)
       sheet e)

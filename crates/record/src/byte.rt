@@ -1,6 +1,6 @@
 // The bytes of columns 7 and 8.
 ghost use mathlib.Core.Path.{_≡_};
-ghost use Rattle.record.specs.Record.{strandByteOf, phaseByteOf};
+ghost use Rattle.measure.specs.Record.{strandByteOf, phaseByteOf};
 
 pub(crate) fn strand_byte(strand: u32) -> u8
     ensures { λ r. ⌜ r ≡ strandByteOf strand ⌝ }

@@ -17,8 +17,8 @@ ghost use Rattle.attributes.specs.Written.{written, column};
 ghost use Rattle.sheet.specs.Reader.{times, counted};
 ghost use Rattle.sheet.specs.Sheet.{Sheet, section, read-attribute, sheet-read};
 ghost use Rattle.sheet.specs.Past.{Passes};
-ghost use Rattle.record.specs.Led.{led};
-ghost use Rattle.record.specs.Record.{strandByteOf, phaseByteOf, scoreOf, record-line};
+ghost use Rattle.measure.specs.Led.{led};
+ghost use Rattle.measure.specs.Record.{strandByteOf, phaseByteOf, scoreOf, record-line};
 
 // The section at `from`, encoded.
 fn lay_text(set: Set, sheet: &[u8], from: usize, out: &mut [u8], at: usize) -> Spot

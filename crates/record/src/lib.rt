@@ -1,11 +1,10 @@
 // A record written into a lent buffer, from its sheet and the numbers beside it. The caller adds the line feed.
 //
-// Proved: the answer and the whole buffer are those of specs/, refusals in document 01's order; a refused record changes no byte. The
-// line is measured before its first byte is laid; each byte of the sheet is read a fixed number of times. Assumes nothing.
+// Proved: the answer and the whole buffer are those that the definitions of `measure` give, refusals in document 01's order; a refused
+// record changes no byte. The record is judged and measured before its first byte is laid; each byte of the sheet is read a fixed number of
+// times. Assumes nothing.
 mod byte;
-mod judge;
 mod lay;
-mod measure;
 mod write;
 
 pub use write::write_record;

@@ -1,7 +1,8 @@
 // The writer.
 use buffer::Written;
+use measure::Judged;
 ghost use Rattle.buffer.specs.Answer.{Wrote};
-ghost use Rattle.record.specs.Record.{record-reasons, record-line};
+ghost use Rattle.measure.specs.Record.{record-reasons, record-line};
 
 // Writes a record at the start of a buffer: the sheet's texts, each escaped by its column's set, and the numbers: strand 0 to 3 for `.`
 // `+` `-` `?`; phase 0 to 2, and 3 for none. Refusals, in order: 24, the sheet is over 1,048,576 bytes; 23, it is not of the form; 2, a
@@ -17,14 +18,14 @@ pub fn write_record(
 ) -> Written
     ensures { λ r. ⌜ Wrote (record-reasons (now (sheet .entry)) start end strand phase) (record-line (now (sheet .entry)) start end strand phase) (now (out .entry)) (now (out .exit)) r ⌝ }
 {
-    let refused = super::judge::refusal(sheet, start, end, strand, phase);
-    if refused != 0 {
-        return Written::Refused(refused);
+    match measure::judge(sheet, start, end, strand, phase) {
+        Judged::Is(need) => {
+            if out.len() < need {
+                return Written::NoRoom(need);
+            }
+            super::lay::lay_line(sheet, start, end, strand, phase, out);
+            Written::Done(need)
+        }
+        Judged::Refused(n) => Written::Refused(n),
     }
-    let need = super::measure::line_len(sheet, start, end);
-    if out.len() < need {
-        return Written::NoRoom(need);
-    }
-    super::lay::lay_line(sheet, start, end, strand, phase, out);
-    Written::Done(need)
 }

@@ -26,7 +26,7 @@ use Rattle.lines.specs.Lines.{text}
 use Rattle.lines.specs.Step.{steps}
 use Rattle.lines.proofs.StepLaws.{steps-lines}
 use Rattle.columns.specs.Fields.{strandNumber, phaseNumber}
-use Rattle.record.specs.Record.{record-reasons, record-line}
+use Rattle.measure.specs.Record.{record-reasons, record-line}
 use Rattle.rewrite.specs.Rewrite.{room, sheet-from, line-again, refusal, said, written-again, record-again, line-rewritten, rewritten}
 
 -- ── reasons, then others ──────────────────────────────────────────────────────────────────────

@@ -17,7 +17,7 @@ use Rattle.attributes.specs.Written.{written, column}
 use Rattle.sheet.specs.Reader.{number, times, times-some, counted, counted-some}
 use Rattle.sheet.specs.Sheet.{read-attribute, read-sheet, ended, number-of, section-of, counted-of, attribute-of, sheet-of}
 use Rattle.unfold.specs.Unfold as reading
-use Rattle.record.specs.Record as writing
+use Rattle.measure.specs.Record as writing
 use Rattle.lines.specs.Kind.{kind}
 use Rattle.lines.specs.Lines.{chomped, lines-after, text}
 use Rattle.rewrite.specs.Rewrite.{said, record-again, line-rewritten, rewritten}

@@ -15,7 +15,7 @@ use Rattle.columns.specs.Fields.{strandNumber, phaseNumber}
 use Rattle.sheet.specs.Sheet.{sheet-of}
 use Rattle.unfold.specs.declared.judging.Numbers.{Numbers}
 use Rattle.unfold.specs.Unfold.{unfolded, numbers-of, unfold-reasons}
-use Rattle.record.specs.Record.{record-reasons, record-line}
+use Rattle.measure.specs.Record.{record-reasons, record-line}
 
 -- "one buffer of 65,536 zero bytes"; the sheet and line buffers "have the same size"
 abbrev pub room : ℕ

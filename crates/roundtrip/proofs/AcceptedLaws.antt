@@ -27,7 +27,7 @@ use Rattle.columns.proofs.FieldsLaws.{strand-back, phase-back}
 use Rattle.columns.proofs.ScoreLaws.{isScoreByte, score-lacks, score-no-dot}
 use Rattle.sheet.specs.Sheet.{Sheet, sheet-read, isSome, sheet-of}
 use Rattle.sheet.proofs.SheetLaws.{GoodSheet, of-read}
-use Rattle.record.specs.Record.{asked, badScore, record-reasons, strandByteOf, phaseByteOf, scoreOf}
+use Rattle.measure.specs.Record.{asked, badScore, record-reasons, strandByteOf, phaseByteOf, scoreOf}
 use Rattle.unfold.specs.Unfold as unfolds
 use Rattle.unfold.specs.Unfold.{noScore}
 

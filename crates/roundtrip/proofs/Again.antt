@@ -13,7 +13,7 @@ use Rattle.columns.specs.declared.column.Column.the-variants as column
 use Rattle.columns.specs.Columns.{columnText}
 use Rattle.columns.specs.Fields.{strandNumber, phaseNumber}
 use Rattle.sheet.specs.Sheet.{sheet-of}
-use Rattle.record.specs.Record.{record-reasons, record-line}
+use Rattle.measure.specs.Record.{record-reasons, record-line}
 use Rattle.unfold.specs.declared.judging.Numbers.{Numbers}
 use Rattle.unfold.specs.declared.lay.Unfolded.the-variants.{Done}
 use Rattle.unfold.specs.Unfold.{unfolded, numbers-of, unfold-reasons, unfolding-by, contents, Unfolds}

@@ -30,7 +30,7 @@ use Rattle.columns.proofs.ScoreLaws.{isScoreByte}
 use Rattle.sheet.specs.Sheet.{Sheet, section-of, attribute-of}
 use Rattle.sheet.proofs.SheetLaws.{Text, GoodAttribute}
 use Rattle.sheet.proofs.LengthLaws.{length-section, length-attribute, length-sheet}
-use Rattle.record.specs.Record.{strandByteOf, phaseByteOf, columns, record-line}
+use Rattle.measure.specs.Record.{strandByteOf, phaseByteOf, columns, record-line}
 use Rattle.roundtrip.proofs.AcceptedLaws.{Accepted, length-score, scoreOf-lacks}
 
 -- column 9 as it is written

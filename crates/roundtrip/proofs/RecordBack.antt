@@ -29,7 +29,7 @@ use Rattle.columns.specs.Columns.{isRecord, columnText}
 use Rattle.columns.specs.Fields.{positionText, strandText, phaseText}
 use Rattle.columns.proofs.ColumnsLaws.{tabsBefore, row-record, row-text}
 use Rattle.sheet.specs.Sheet.{sheet-read, sheet-of}
-use Rattle.record.specs.Record.{columns, record-reasons, record-line}
+use Rattle.measure.specs.Record.{columns, record-reasons, record-line}
 use Rattle.unfold.specs.declared.lay.Unfolded.{Unfolded}
 use Rattle.unfold.specs.declared.lay.Unfolded.the-variants.{Done}
 use Rattle.unfold.specs.Unfold.{unfolded, numbers-of, unfold-reasons, unfolding-by, contents, Unfolds}

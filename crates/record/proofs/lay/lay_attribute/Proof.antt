@@ -12,7 +12,7 @@ use Rattle.buffer.proofs.LaidLaws.{lays-then}
 use Rattle.sheet.specs.Sheet.{section}
 use Rattle.sheet.proofs.CursorLaws.{CountHands, count-meets}
 use Rattle.sheet.proofs.PastLaws.{times-length, past-also, past-some, past-zero, past-cut, past-attribute}
-use Rattle.record.proofs.LedLaws.{led-written}
+use Rattle.measure.proofs.LedLaws.{led-written}
 use Rattle.record.proofs.lay.lay_attribute.Statement.{statement}
 use Rattle.record.proofs.lay.lay_attribute.Tie as tie
 

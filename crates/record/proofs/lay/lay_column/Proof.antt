@@ -9,7 +9,7 @@ use Rattle.buffer.proofs.LaidLaws.{lays-then}
 use Rattle.sheet.specs.Sheet.{read-attribute}
 use Rattle.sheet.proofs.CursorLaws.{CountHands, count-meets}
 use Rattle.sheet.proofs.PastLaws.{times-length, past-also, past-weaken, past-all, past-counted, past-uncounted}
-use Rattle.record.proofs.LedLaws.{led-column}
+use Rattle.measure.proofs.LedLaws.{led-column}
 use Rattle.record.proofs.lay.lay_column.Statement.{statement}
 use Rattle.record.proofs.lay.lay_column.Tie as tie
 

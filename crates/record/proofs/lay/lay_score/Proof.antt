@@ -3,7 +3,7 @@ use native.Mathlib.Omega.{arith}
 use borrow.Author.Needs.{needs}
 use Rattle.buffer.proofs.LaidLaws.{lays-then}
 use Rattle.sheet.proofs.CursorLaws.{section-meets}
-use Rattle.record.proofs.PassLaws.{passes-section, passes-none}
+use Rattle.measure.proofs.PassLaws.{passes-section, passes-none}
 use Rattle.record.proofs.lay.lay_score.Statement.{statement}
 use Rattle.record.proofs.lay.lay_score.Tie as tie
 

@@ -2,7 +2,7 @@
 use native.Mathlib.Omega.{arith}
 use borrow.Author.Needs.{needs}
 use Rattle.sheet.proofs.CursorLaws.{section-meets}
-use Rattle.record.proofs.PassLaws.{passes-section, passes-none}
+use Rattle.measure.proofs.PassLaws.{passes-section, passes-none}
 use Rattle.record.proofs.lay.lay_text.Statement.{statement}
 use Rattle.record.proofs.lay.lay_text.Tie as tie
 

@@ -1,6 +1,6 @@
 -- `lay_token`: `.` for an empty token, else the token. Assumes nothing.
 use borrow.Author.Needs.{needs}
-use Rattle.record.proofs.LedLaws.{score-none, score-some}
+use Rattle.measure.proofs.LedLaws.{score-none, score-some}
 use Rattle.record.proofs.lay.lay_token.Statement.{statement}
 use Rattle.record.proofs.lay.lay_token.Tie as tie
 

@@ -1,0 +1,165 @@
+// How long a record's line is: measured text by text, in the sheet's order, before the first byte is laid.
+use super::Spot;
+use percent::Set;
+use sheet::CountRead;
+use sheet::SectionRead;
+ghost use mathlib.Core.Path.{_≡_};
+ghost use mathlib.Core.List.{_∷_, map};
+ghost use mathlib.Core.Option.{some};
+ghost use Prim.Native.Nat.{ℕ, _+_, _*_, _≤_};
+ghost use lib.ListN.{length, drop};
+ghost use Rattle.percent.specs.declared.set.Set.the-variants.{Attribute};
+ghost use Rattle.percent.specs.Percent.{encoded};
+ghost use Rattle.percent.specs.Sets.{escapes};
+ghost use Rattle.attributes.specs.Written.{written, column};
+ghost use Rattle.sheet.specs.Reader.{times, counted};
+ghost use Rattle.sheet.specs.Sheet.{Sheet, section, read-attribute, sheet-read};
+ghost use Rattle.sheet.specs.Past.{Passes};
+ghost use Rattle.measure.specs.Led.{led, Measures};
+ghost use Rattle.measure.specs.Record.{scoreOf, record-line};
+
+// The section at `from`, encoded, behind n bytes.
+fn text_len(set: Set, sheet: &[u8], from: usize, n: usize) -> Spot
+    requires { ⌜ (length (now sheet) ≤ 1048576) × (n ≤ 1000000000) ⌝ }
+    ensures passes { λ r. ⌜ Passes (λ t. Measures (encoded (escapes set) t) (from + 4) n r) (now (sheet .entry)) (r .from) (section (drop from (now (sheet .entry)))) ⌝ }
+    ensures bound { λ r. ⌜ r .to ≤ n + 3 * length (now (sheet .entry)) ⌝ }
+{
+    match sheet::section_at(sheet, from) {
+        SectionRead::At(place) => {
+            let text = scan::text(sheet, place);
+            Spot {
+                from: place.end,
+                to: n + text.len() + 2 * percent::count_escaped(set, text),
+            }
+        }
+        SectionRead::Malformed => Spot {
+            from: sheet.len() + 1,
+            to: n,
+        },
+    }
+}
+
+// The values of an attribute, each behind a byte.
+fn values_len(sheet: &[u8], first: usize, count: usize, n: usize) -> Spot
+    requires { ⌜ (length (now sheet) ≤ 1048576) × (n ≤ 900000000) × (first ≤ length (now sheet)) ⌝ }
+    ensures { λ r. ⌜ Passes (λ vs. Measures (led 44 44 (map (encoded (escapes Attribute)) vs)) first n r) (now (sheet .entry)) (r .from) (times section count (drop first (now (sheet .entry)))) ⌝ }
+{
+    let mut from = first;
+    let mut to = n;
+    let mut left = count;
+    while 0 < left {
+        let value = text_len(Set::Attribute, sheet, from, to + 1);
+        from = value.from;
+        to = value.to;
+        if sheet.len() < from {
+            return Spot { from, to };
+        }
+        left -= 1;
+    }
+    Spot { from, to }
+}
+
+// The attribute at `from`, behind a byte.
+fn attribute_len(sheet: &[u8], from: usize, n: usize) -> Spot
+    requires { ⌜ (length (now sheet) ≤ 1048576) × (n ≤ 800000000) ⌝ }
+    ensures { λ r. ⌜ Passes (λ a. Measures (59 ∷ written (escapes Attribute) a) from n r) (now (sheet .entry)) (r .from) (read-attribute (drop from (now (sheet .entry)))) ⌝ }
+{
+    let tag = text_len(Set::Attribute, sheet, from, n + 1);
+    match sheet::count_at(sheet, tag.from) {
+        CountRead::Is(count, first) => {
+            if count < 1 {
+                return Spot {
+                    from: sheet.len() + 1,
+                    to: n,
+                };
+            }
+            values_len(sheet, first, count, tag.to)
+        }
+        CountRead::Malformed => Spot {
+            from: sheet.len() + 1,
+            to: n,
+        },
+    }
+}
+
+// The attributes, each behind a byte.
+fn attributes_len(sheet: &[u8], first: usize, count: usize, n: usize) -> Spot
+    requires { ⌜ (length (now sheet) ≤ 1048576) × (n ≤ 700000000) × (first ≤ length (now sheet)) ⌝ }
+    ensures { λ r. ⌜ Passes (λ l. Measures (led 59 59 (map (written (escapes Attribute)) l)) first n r) (now (sheet .entry)) (r .from) (times read-attribute count (drop first (now (sheet .entry)))) ⌝ }
+{
+    let mut from = first;
+    let mut to = n;
+    let mut left = count;
+    while 0 < left {
+        let attribute = attribute_len(sheet, from, to);
+        from = attribute.from;
+        to = attribute.to;
+        if sheet.len() < from {
+            return Spot { from, to };
+        }
+        left -= 1;
+    }
+    Spot { from, to }
+}
+
+// Column 9 and the tab before it.
+fn column_len(sheet: &[u8], from: usize, n: usize) -> Spot
+    requires { ⌜ (length (now sheet) ≤ 1048576) × (n ≤ 700000000) ⌝ }
+    ensures { λ r. ⌜ Passes (λ l. r .to ≡ n + length (9 ∷ column (escapes Attribute) l)) (now (sheet .entry)) (r .from) (counted read-attribute (drop from (now (sheet .entry)))) ⌝ }
+{
+    match sheet::count_at(sheet, from) {
+        CountRead::Is(count, first) => {
+            if count == 0 {
+                return Spot {
+                    from: first,
+                    to: n + 2,
+                };
+            }
+            attributes_len(sheet, first, count, n)
+        }
+        CountRead::Malformed => Spot {
+            from: sheet.len() + 1,
+            to: n,
+        },
+    }
+}
+
+// Column 6 and the tab before it.
+fn score_len(sheet: &[u8], from: usize, n: usize) -> Spot
+    requires { ⌜ (length (now sheet) ≤ 1048576) × (n ≤ 600000000) ⌝ }
+    ensures passes { λ r. ⌜ Passes (λ t. r .to ≡ n + length (9 ∷ scoreOf t)) (now (sheet .entry)) (r .from) (section (drop from (now (sheet .entry)))) ⌝ }
+    ensures bound { λ r. ⌜ r .to ≤ n + 2 + length (now (sheet .entry)) ⌝ }
+{
+    match sheet::section_at(sheet, from) {
+        SectionRead::At(place) => {
+            if place.start == place.end {
+                return Spot {
+                    from: place.end,
+                    to: n + 2,
+                };
+            }
+            Spot {
+                from: place.end,
+                to: n + 1 + (place.end - place.start),
+            }
+        }
+        SectionRead::Malformed => Spot {
+            from: sheet.len() + 1,
+            to: n,
+        },
+    }
+}
+
+// The line: two columns of digits and two of one byte, each with its tab, and what the sheet holds.
+pub(crate) fn line_len(sheet: &[u8], start: u64, end: u64) -> usize
+    requires { ⌜ length (now sheet) ≤ 1048576 ⌝ }
+    ensures { λ r. ⌜ ((s : Sheet) (strand phase : ℕ) → sheet-read (now (sheet .entry)) ≡ some s → r ≡ length (record-line (now (sheet .entry)) start end strand phase)) ⌝ }
+{
+    let digits = numbers::decimal_len(start) + numbers::decimal_len(end);
+    let name = text_len(Set::Name, sheet, 0, 6 + digits);
+    let source = text_len(Set::Column, sheet, name.from, name.to + 1);
+    let kind = text_len(Set::Column, sheet, source.from, source.to + 1);
+    let score = score_len(sheet, kind.from, kind.to);
+    let column = column_len(sheet, score.from, score.to);
+    column.to
+}
