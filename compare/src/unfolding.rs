@@ -66,8 +66,14 @@ pub fn sweep(report: &mut Report) {
 
     // Short lines whose texts stand close to the sheet's buffer, each in the ways that memory is lent.
     for len in 0..=40 {
-        for column in [0, 1, 2, 8] {
-            let text = texts::turns(if column == 8 { b"=abcdefghij" } else { b"abcdefghijk" }, len);
+        for (column, alphabet) in [
+            (0, b"abcdefghijk"),
+            (1, b"abcdefghijk"),
+            (2, b"abcdefghijk"),
+            (5, b"12345678901"),
+            (8, b"=abcdefghij"),
+        ] {
+            let text = texts::turns(alphabet, len);
             let mut columns: [&[u8]; 9] = [b"", b"", b"", b"1", b"1", b".", b".", b".", b""];
             columns[column] = &text;
 
