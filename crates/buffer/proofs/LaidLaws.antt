@@ -100,6 +100,9 @@ Left text d₀ at₀ rest d at = Lays rest d at (laid d₀ at₀ text) (min (at�
 pub left-start : (text d : List ℕ) (at : ℕ) → Left text d at text d (min at (length d))
 left-start text d at = record { left = sym (laid-clipped text d at); end = omega arith }
 
+pub left-all : (text d : List ℕ) (at : ℕ) → Left text d at text d at
+left-all text d at = record { left = refl; end = refl }
+
 module _ {text d₀ d : List ℕ} {at₀ at : ℕ} where
   -- the end
   pub none-left : at ≤ length d → Left text d₀ at₀ [] d at → Lays text d₀ at₀ d at

@@ -1,5 +1,6 @@
 mod Samples
 pub mod CursorLaws
 pub mod PercentLaws
+mod PlainLaws
 pub mod SetLaws
 mod Unique

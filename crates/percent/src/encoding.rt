@@ -6,21 +6,39 @@ ghost use Prim.Native.Nat.{_≤_};
 ghost use lib.ListN.{length};
 ghost use Rattle.buffer.specs.Answer.{Wrote};
 ghost use Rattle.buffer.specs.Laid.{Lays};
+ghost use Rattle.percent.specs.declared.set.Set.{Set};
 ghost use Rattle.percent.specs.Percent.{escape, piece, encoded, count};
+ghost use Rattle.percent.specs.Unit.{Plain};
 ghost use Rattle.percent.specs.Sets.{escapes, encode-reasons};
 
 // The longest text that is percent-encoded.
 const LONGEST: usize = 1048576;
+
+// Where the bytes from `from` on that no set escapes end: the first that one does, or the length.
+fn plain_end(s: &[u8], from: usize) -> usize
+    requires { ⌜ from ≤ length (now s) ⌝ }
+    ensures run { λ r. ⌜ ((set : Set) → Plain (escapes set) (now (s .entry)) from r) ⌝ }
+    ensures within { λ r. ⌜ (from ≤ r) × (r ≤ length (now (s .entry))) ⌝ }
+{
+    let mut i = from;
+    while i < s.len() {
+        if !super::set::is_plain(s[i]) {
+            return i;
+        }
+        i += 1;
+    }
+    i
+}
 
 // How many bytes of a text the set escapes: encoded, the text is two bytes longer for each.
 pub fn count_escaped(set: Set, s: &[u8]) -> usize
     ensures { λ r. ⌜ (r ≡ count (escapes set) (now (s .entry))) × (r ≤ length (now (s .entry))) ⌝ }
 {
     let mut n: usize = 0;
-    let mut i = 0;
+    let mut i = plain_end(s, 0);
     while i < s.len() {
         n += super::set::escaped(set, s[i]) as usize;
-        i += 1;
+        i = plain_end(s, i + 1);
     }
     n
 }
@@ -48,11 +66,13 @@ fn lay_piece(set: Set, b: u8, out: &mut [u8], at: usize) -> usize
 pub fn lay_encoded(set: Set, s: &[u8], out: &mut [u8], at: usize) -> usize
     ensures { λ r. ⌜ Lays (encoded (escapes set) (now (s .entry))) (now (out .entry)) at (now (out .exit)) r ⌝ }
 {
-    let mut to = buffer::least(at, out.len());
-    let mut i = 0;
+    let mut i = plain_end(s, 0);
+    let mut to = buffer::lay(scan::part(s, 0, i), out, at);
     while i < s.len() {
         to = lay_piece(set, s[i], out, to);
-        i += 1;
+        let next = plain_end(s, i + 1);
+        to = buffer::lay(scan::part(s, i + 1, next), out, to);
+        i = next;
     }
     to
 }

@@ -1,6 +1,9 @@
 // The three sets of bytes that are escaped. Each holds the next: column 1 escapes what tags and values do, and these what columns 2
 // and 3 do. So one number a byte says it all: the smallest set that escapes it.
 ghost use mathlib.Core.Path.{_≡_};
+ghost use mathlib.Core.Bool.{true, false, not};
+ghost use Rattle.percent.specs.declared.set.Set.{Set};
+ghost use Rattle.percent.specs.declared.set.Set.the-variants.{Name};
 ghost use Rattle.percent.specs.Sets.{escapes};
 
 pub enum Set {
@@ -271,6 +274,27 @@ const ESCAPES: [u8; 256] = [
     3, // 0xFE
     3, // 0xFF
 ];
+
+// The bytes of class 0 below 64, and those from 64 on, a bit a byte: `-` `.` `:` `!` `$` `*` `+` `?` and the digits; `@` `^` `_` `|` and the
+// letters.
+const PLAIN_LOW: u64 = 9799670138746699776;
+
+const PLAIN_HIGH: u64 = 1729382251675779071;
+
+// Whether no set escapes a byte. The table is laid out anew wherever it is asked, so these, which most bytes of a text are, are told by
+// two words.
+pub(crate) fn is_plain(b: u8) -> bool
+    ensures exact { λ r. ⌜ r ≡ not (escapes Name b) ⌝ }
+    ensures plain { λ r. ⌜ (r ≡ true → (set : Set) → escapes set b ≡ false) ⌝ }
+{
+    if b < 64 {
+        return (PLAIN_LOW >> (b as u32)) % 2 == 1;
+    }
+    if b < 128 {
+        return (PLAIN_HIGH >> ((b - 64) as u32)) % 2 == 1;
+    }
+    false
+}
 
 // Whether a set escapes a byte.
 pub fn escaped(set: Set, b: u8) -> bool

@@ -23,20 +23,25 @@ as-number : (t : Bool) → (boolByte t ≡ cond t 1 0) × (boolByte t ≤ 1)
 as-number true = (refl, omega arith)
 as-number false = (refl, omega arith)
 
+loop-holds : tie.Need-loop-holds Inv-loop μ-loop
+loop-holds c = (c .plain-end .ensures .1 .1, omega arith, omega (arith, c .plain-end .ensures .0 (c .before .before .args .set) .none))
+
 loop-again : tie.Need-loop-again Inv-loop μ-loop
 loop-again c =
-    let turn = c .before .before in
-    let a = turn .before .before .before .args in
+    let one = c .before in
+    let turn = one .before .before in
+    let a = turn .before .before .before .before .args in
     let l = turn .before .loop in
-    let n = as-number (c .escaped .result) in
-    let e : cond (escapes (a .set) (getD (a .s .now) (l .i) 0)) 1 0 ≡ boolByte (c .escaped .result) = rw (← c .escaped .ensures) (sym (n .0)) in
+    let n = as-number (one .escaped .result) in
+    let e : cond (escapes (a .set) (getD (a .s .now) (l .i) 0)) 1 0 ≡ boolByte (one .escaped .result) = rw (← one .escaped .ensures) (sym (n .0)) in
     let more = count-next (escapes (a .set)) (a .s .now) (l .i) (turn .loop-test .taken) in
-    (omega arith, omega (arith, n .1), omega arith)
+    let run = c .plain-end2 .ensures .0 (a .set) .none in
+    (c .plain-end2 .ensures .1 .1, omega (arith, n .1, c .plain-end2 .ensures .1 .0), omega arith)
 
 returns : tie.Need-returns Inv-loop μ-loop
 returns c =
     let l = c .before .loop in
-    let a = c .before .before .before .args in
+    let a = c .before .before .before .before .args in
     let none = count-end (escapes (a .set)) (a .s .now) (l .i) (c .loop-test .left) in (omega arith, omega arith)
 
 pub count-escaped-spec : {M : Type 1} → statement M
@@ -45,12 +50,14 @@ count-escaped-spec =
     (tie.spec
     Inv-loop
     μ-loop
-    (λ c. (omega arith, omega arith, omega arith))
+    (λ c κs. omega arith)
+    loop-holds
     (λ c. search needs)
     (λ c κs. tt)
     (λ c. omega (arith, as-number (c .escaped .result) .1))
     (λ c. omega (arith, as-number (c .escaped .result) .1))
     (λ c. search needs)
-    (λ c. search needs)
+    (λ c κs. omega arith)
+    (λ c. omega (arith, c .plain-end2 .ensures .1 .0))
     loop-again
     returns)

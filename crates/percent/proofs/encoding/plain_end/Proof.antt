@@ -1,0 +1,42 @@
+-- `plain_end`: so far every byte stands for itself. Assumes nothing.
+use Prim.Native.Nat.{_-_, _≤_}
+use native.Mathlib.Omega.{arith}
+use borrow.Author.Needs.{needs}
+use borrow.Author.Tests.{not-false}
+use lib.ListN.{length}
+use Rattle.percent.specs.declared.set.Set.{Set}
+use Rattle.percent.specs.Sets.{escapes}
+use Rattle.percent.specs.Unit.{Plain}
+use Rattle.percent.proofs.PlainLaws.{plain-start, plain-next}
+use Rattle.percent.proofs.encoding.plain_end.Statement.{statement}
+use Rattle.percent.proofs.encoding.plain_end.Tie as tie
+
+abbrev Inv-loop : tie.InvT-loop
+Inv-loop s from i₀ i = (from ≤ i) × (i ≤ length s) × ((set : Set) → Plain (escapes set) s from i)
+
+abbrev μ-loop : tie.MeasureT-loop
+μ-loop s from i₀ i = length s - i
+
+loop-again : tie.Need-loop-again Inv-loop μ-loop
+loop-again c =
+    let p = c .before in
+    let turn = p .before .before in
+    let l = turn .before .loop in
+    let s = turn .before .before .before .args .s .now in
+    let e = p .is-plain .ensures .1 (not-false _ (c .if1 .left)) in
+    (omega arith, omega arith, λ set. plain-next (escapes set) s _ (l .i) (l .inv .0) (turn .loop-test .taken) (e set) (l .inv .2 set))
+
+pub plain-end-spec : {M : Type 1} → statement M
+plain-end-spec =
+    tie.close
+    (tie.spec
+    Inv-loop
+    μ-loop
+    (λ c. (omega arith, c .before .pre, λ set. plain-start (escapes set) _ _))
+    (λ c. search needs)
+    (λ c κs. tt)
+    (λ c. let l = c .before .before .before .before .loop in (l .inv .2, (l .inv .0, l .inv .1)))
+    (λ c. search needs)
+    (λ c. omega arith)
+    loop-again
+    (λ c. let l = c .before .loop in (l .inv .2, (l .inv .0, l .inv .1))))
