@@ -7,8 +7,8 @@ use lib.ListN.{length}
 use Rattle.buffer.specs.declared.Written.{Written}
 use Rattle.buffer.specs.declared.Written.the-variants as written
 use Rattle.buffer.specs.Answer.{Reason, first, answer, contents}
-use Rattle.columns.specs.declared.position.PositionRead.{PositionRead}
-use Rattle.columns.specs.declared.position.PositionRead.the-variants as position
+use Rattle.tokens.specs.declared.position.PositionRead.{PositionRead}
+use Rattle.tokens.specs.declared.position.PositionRead.the-variants as position
 use Rattle.answers.specs.declared.Gff3Number.{Gff3Number}
 use Rattle.answers.specs.declared.Gff3Written.{Gff3Written}
 

@@ -3,7 +3,7 @@
 //
 // Proved: each answer is that of one definition for each enum, which gives document 01's number and values for each case. Assumes nothing.
 use buffer::Written;
-use columns::PositionRead;
+use tokens::PositionRead;
 ghost use mathlib.Core.Path.{_≡_};
 ghost use Rattle.answers.specs.Answers.{positionOf, writtenOf};
 

@@ -9,28 +9,16 @@ use Rattle.columns.proofs.bounds.own.Kinds as own-kinds
 use Rattle.columns.proofs.bounds.own.Reads as own
 use Rattle.columns.proofs.column.column_at.Kinds as column-at-kinds
 use Rattle.columns.proofs.column.column_at.Reads as column-at
-use Rattle.columns.proofs.position.position_of.Kinds as position-of-kinds
-use Rattle.columns.proofs.position.position_of.Reads as position-of
 use Rattle.columns.proofs.position.start_at.Kinds as start-at-kinds
 use Rattle.columns.proofs.position.start_at.Reads as start-at
 use Rattle.columns.proofs.position.end_at.Kinds as end-at-kinds
 use Rattle.columns.proofs.position.end_at.Reads as end-at
-use Rattle.columns.proofs.score.is_score.Kinds as is-score-kinds
-use Rattle.columns.proofs.score.is_score.Reads as is-score
 use Rattle.columns.proofs.score.score_at.Kinds as score-at-kinds
 use Rattle.columns.proofs.score.score_at.Reads as score-at
-use Rattle.columns.proofs.strand.strand_of.Kinds as strand-of-kinds
-use Rattle.columns.proofs.strand.strand_of.Reads as strand-of
 use Rattle.columns.proofs.strand.strand_at.Kinds as strand-at-kinds
 use Rattle.columns.proofs.strand.strand_at.Reads as strand-at
-use Rattle.columns.proofs.strand.strand_number.Kinds as strand-number-kinds
-use Rattle.columns.proofs.strand.strand_number.Reads as strand-number
-use Rattle.columns.proofs.phase.phase_of.Kinds as phase-of-kinds
-use Rattle.columns.proofs.phase.phase_of.Reads as phase-of
 use Rattle.columns.proofs.phase.phase_at.Kinds as phase-at-kinds
 use Rattle.columns.proofs.phase.phase_at.Reads as phase-at
-use Rattle.columns.proofs.phase.phase_number.Kinds as phase-number-kinds
-use Rattle.columns.proofs.phase.phase_number.Reads as phase-number
 use Rattle.columns.proofs.texts.reference_sequence_name.Kinds as reference-sequence-name-kinds
 use Rattle.columns.proofs.texts.reference_sequence_name.Reads as reference-sequence-name
 use Rattle.columns.proofs.texts.source.Kinds as source-kinds
@@ -47,38 +35,20 @@ own-one κs a x y s t p q = p ∙ sym q
 column-at-one : OneResult 1 column-at-kinds.ps column-at-kinds.r column-at.Post
 column-at-one κs a x y s t p q = p ∙ sym q
 
-position-of-one : OneResult 1 position-of-kinds.ps position-of-kinds.r position-of.Post
-position-of-one κs a x y s t p q = p ∙ sym q
-
 start-at-one : OneResult 1 start-at-kinds.ps start-at-kinds.r start-at.Post
 start-at-one κs a x y s t p q = p ∙ sym q
 
 end-at-one : OneResult 1 end-at-kinds.ps end-at-kinds.r end-at.Post
 end-at-one κs a x y s t p q = p ∙ sym q
 
-is-score-one : OneResult 1 is-score-kinds.ps is-score-kinds.r is-score.Post
-is-score-one κs a x y s t p q = p ∙ sym q
-
 score-at-one : OneResult 1 score-at-kinds.ps score-at-kinds.r score-at.Post
 score-at-one κs a x y s t p q = p ∙ sym q
-
-strand-of-one : OneResult 1 strand-of-kinds.ps strand-of-kinds.r strand-of.Post
-strand-of-one κs a x y s t p q = p ∙ sym q
 
 strand-at-one : OneResult 1 strand-at-kinds.ps strand-at-kinds.r strand-at.Post
 strand-at-one κs a x y s t p q = p ∙ sym q
 
-strand-number-one : OneResult 0 strand-number-kinds.ps strand-number-kinds.r strand-number.Post
-strand-number-one κs a x y s t p q = p ∙ sym q
-
-phase-of-one : OneResult 1 phase-of-kinds.ps phase-of-kinds.r phase-of.Post
-phase-of-one κs a x y s t p q = p ∙ sym q
-
 phase-at-one : OneResult 1 phase-at-kinds.ps phase-at-kinds.r phase-at.Post
 phase-at-one κs a x y s t p q = p ∙ sym q
-
-phase-number-one : OneResult 0 phase-number-kinds.ps phase-number-kinds.r phase-number.Post
-phase-number-one κs a x y s t p q = p ∙ sym q
 
 reference-sequence-name-one : One 2 reference-sequence-name-kinds.ps reference-sequence-name-kinds.r reference-sequence-name.Post (λ κs x. x) (λ κs s. now (s .1 .1 .0))
 reference-sequence-name-one κs a x y s t p q = wrote-one p q

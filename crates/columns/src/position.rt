@@ -1,33 +1,16 @@
 // Columns 4 and 5: start and end.
 use super::bounds::Bounds;
 use super::column::Column;
-use numbers::Number;
+use tokens::PositionRead;
 ghost use mathlib.Core.Path.{_≡_};
 ghost use Rattle.columns.specs.declared.column.Column.the-variants.{Start, End};
-ghost use Rattle.columns.specs.Fields.{positionText, positionAt};
-
-pub enum PositionRead {
-    // 1 to 18446744073709551615.
-    Is(u64),
-    // 1 or 2.
-    Refused(u32),
-}
-
-// A position: one or more digits, value 1 to 18446744073709551615; else 2.
-pub fn position_of(text: &[u8]) -> PositionRead
-    ensures { λ r. ⌜ r ≡ positionText (now (text .entry)) ⌝ }
-{
-    match numbers::position(text) {
-        Number::Value(n) => PositionRead::Is(n),
-        Number::Invalid => PositionRead::Refused(2),
-    }
-}
+ghost use Rattle.columns.specs.Fields.{positionAt};
 
 fn position_at(line: &[u8], bounds: Bounds, column: Column) -> PositionRead
     ensures { λ r. ⌜ r ≡ positionAt column (now (line .entry)) bounds ⌝ }
 {
     if super::bounds::own(line, bounds) {
-        position_of(super::column::text(line, bounds, column))
+        tokens::position_of(super::column::text(line, bounds, column))
     } else {
         PositionRead::Refused(1)
     }

@@ -15,7 +15,7 @@ use Rattle.buffer.specs.Answer.{Reason, first, number, answer, contents, Wrote}
 use Rattle.buffer.proofs.AnswerLaws.{wrote-one, number-answer}
 use Rattle.marks.specs.declared.directive.Value.{Value}
 use Rattle.marks.specs.declared.directive.Value.the-variants.{None, Text, Version, Region, Build}
-use Rattle.marks.specs.Comment.{comment-reasons}
+use Rattle.comments.specs.Comment.{comment-reasons}
 use Rattle.marks.specs.Directive.{directive-reasons}
 use Rattle.marks.specs.GenomeBuild.{build-reasons}
 use Rattle.marks.specs.Judge as judge

@@ -13,7 +13,8 @@ use Rattle.columns.proofs.ColumnsLaws.{row-record, row-text}
 use Rattle.attributes.proofs.ValueLaws.{values-steps}
 use Rattle.attributes.proofs.WalkLaws.{steps-walk}
 use Rattle.attributes.proofs.WrittenLaws.{walk-column}
-use Rattle.marks.proofs.RoundTrip.{directive-back, typed-back, comment-back}
+use Rattle.comments.proofs.RoundTrip.{comment-back}
+use Rattle.marks.proofs.RoundTrip.{directive-back, typed-back}
 use Rattle.demands.specs.Item.{reasons-of, line-of}
 use Rattle.demands.specs.Demand.{Demand1, Demand2, Demand3}
 use Rattle.demands.proofs.AnswerLaws.{writes, item-numbered, unfold-answers, no-fields}

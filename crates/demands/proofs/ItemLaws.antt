@@ -11,7 +11,8 @@ use Rattle.buffer.specs.declared.Written.{Written}
 use Rattle.buffer.specs.declared.Written.the-variants.{Done, Refused, NoRoom}
 use Rattle.buffer.specs.Answer.{first, number, answer, contents, Wrote}
 use Rattle.lines.specs.Lines.{OneLine}
-use Rattle.marks.proofs.RoundTrip.{comment-kind, comment-back, comment-one, directive-kind, directive-back, directive-one, typed-back}
+use Rattle.comments.proofs.RoundTrip.{comment-kind, comment-back, comment-one}
+use Rattle.marks.proofs.RoundTrip.{directive-kind, directive-back, directive-one, typed-back}
 use Rattle.roundtrip.proofs.RecordBack.{record-one, record-back}
 use Rattle.demands.specs.Item.{Item, feature, directive, comment, line-of, reasons-of, Typed, Accepted, ReadsBack}
 

@@ -10,9 +10,9 @@ use Rattle.numbers.specs.Number.{allDigits, someDigits, value-after, numeral, s
 use Rattle.percent.specs.Percent.{isHex, hexValue, decoded, piece, encoded}
 use Rattle.percent.specs.Sets.{escapes}
 use Rattle.lines.specs.Kind.{kind, directiveText}
+use Rattle.tokens.specs.Tokens.{positionText}
+use Rattle.tokens.specs.Score.{isScore}
 use Rattle.columns.specs.Columns.{end, columnPlace}
-use Rattle.columns.specs.Fields.{positionText}
-use Rattle.columns.specs.Score.{isScore}
 use Rattle.attributes.specs.Pieces.{pieces-after}
 use Rattle.attributes.specs.Attributes as column9
 use Rattle.attributes.specs.Written as written9

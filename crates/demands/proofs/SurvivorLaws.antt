@@ -10,8 +10,8 @@ use lib.ListN.{length, length-append}
 use borrow.Author.Tests.{leb-true, le-leb, lt-leb}
 use Rattle.lists.specs.Bytes.{Every}
 use Rattle.lines.specs.Lines.{text}
-use Rattle.marks.specs.Comment.{comment-reasons, hashed}
-use Rattle.marks.specs.Judge.{holds}
+use Rattle.comments.specs.Comment.{comment-reasons, hashed}
+use Rattle.texts.specs.Text.{holds}
 use Rattle.demands.specs.Item.{Item, comment, line-of, reasons-of, Typed, Accepted}
 use Rattle.demands.specs.Survivors.{text-of, size, size-behind, before, after}
 

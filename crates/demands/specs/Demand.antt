@@ -31,7 +31,7 @@ use Rattle.attributes.specs.Step as column9
 use Rattle.attributes.specs.Written.{Writable, column}
 use Rattle.attributes.proofs.ValueLaws.{start}
 use Rattle.marks.specs.declared.directive.Value.{Value}
-use Rattle.marks.specs.Comment.{comment-reasons, comment-line}
+use Rattle.comments.specs.Comment.{comment-reasons, comment-line}
 use Rattle.marks.specs.Directive.{directive-reasons, directive-line}
 use Rattle.marks.proofs.RoundTrip.{value-text, Sized, Back}
 use Rattle.sheet.specs.Sheet.{sheet-of}

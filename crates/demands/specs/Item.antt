@@ -10,7 +10,7 @@ use Rattle.lines.specs.Kind.{kind}
 use Rattle.lines.specs.declared.kind.Kind.the-variants.{Directive, Comment}
 use Rattle.lines.proofs.KindLaws.{ReadsComment, ReadsDirective}
 use Rattle.marks.specs.declared.directive.Value.{Value}
-use Rattle.marks.specs.Comment.{comment-reasons, comment-line}
+use Rattle.comments.specs.Comment.{comment-reasons, comment-line}
 use Rattle.marks.specs.Directive.{directive-reasons, directive-line}
 use Rattle.marks.proofs.RoundTrip.{value-text, Sized, Back}
 use Rattle.measure.specs.Record.{record-reasons, record-line}

@@ -14,11 +14,11 @@ use Rattle.percent.specs.Percent.{decoded}
 use Rattle.lines.specs.declared.directive.DirectiveText.the-variants as directive
 use Rattle.lines.specs.declared.directive.ValueText.the-variants as value
 use Rattle.lines.specs.Kind.{directiveText}
+use Rattle.tokens.specs.declared.position.PositionRead.the-variants as position
+use Rattle.tokens.specs.Tokens.{positionText}
 use Rattle.columns.specs.declared.column.Column.{Column}
 use Rattle.columns.specs.declared.column.Column.the-variants as column
-use Rattle.columns.specs.declared.position.PositionRead.the-variants as position
 use Rattle.columns.specs.Columns.{isRecord, columnText}
-use Rattle.columns.specs.Fields.{positionText}
 use Rattle.attributes.specs.Attributes.{done, refused, then, walk, attributes}
 use Rattle.directives.specs.declared.gff_version.Part.the-variants.{Absent}
 use Rattle.directives.specs.declared.gff_version.VersionRead.the-variants as version

@@ -9,7 +9,7 @@ ghost use mathlib.Core.Path.{_≡_};
 ghost use mathlib.Core.List.{[]};
 ghost use Rattle.percent.specs.Percent.{decoded, encoded};
 ghost use Rattle.percent.specs.Sets.{escapes, encode-reasons};
-ghost use Rattle.columns.specs.Fields.{positionText};
+ghost use Rattle.tokens.specs.Tokens.{positionText};
 ghost use Rattle.answers.specs.Answers.{positionOf, Writes};
 ghost use Rattle.export_coding.specs.Coding.{setOf};
 
@@ -45,5 +45,5 @@ pub extern "C" fn gff3_encode(set: u32, text: &[u8], out: &mut [u8]) -> Gff3Writ
 pub extern "C" fn gff3_position(text: &[u8]) -> Gff3Number
     ensures { λ r. ⌜ r ≡ positionOf (positionText (now (text .entry))) ⌝ }
 {
-    answers::position_of(columns::position_of(text))
+    answers::position_of(tokens::position_of(text))
 }

@@ -2,6 +2,11 @@
 use Prim.Native.Nat.{ℕ}
 use mathlib.Core.Bool.{cond}
 use lib.Dec.{eqb}
+use Rattle.tokens.specs.declared.strand.StrandRead.{StrandRead}
+use Rattle.tokens.specs.declared.strand.StrandRead.the-variants as strandRead
+use Rattle.tokens.specs.declared.phase.PhaseRead.{PhaseRead}
+use Rattle.tokens.specs.declared.phase.PhaseRead.the-variants as phaseRead
+use Rattle.tokens.specs.Tokens.{strandNumber, phaseNumber}
 use Rattle.columns.specs.declared.bounds.Bounds.{Bounds}
 use Rattle.columns.specs.declared.bounds.Indexed.{Indexed}
 use Rattle.columns.specs.declared.bounds.Indexed.the-variants as index
@@ -11,11 +16,6 @@ use Rattle.columns.specs.declared.column.ColumnRead.{ColumnRead}
 use Rattle.columns.specs.declared.column.ColumnRead.the-variants as columnRead
 use Rattle.columns.specs.declared.score.ScoreRead.{ScoreRead}
 use Rattle.columns.specs.declared.score.ScoreRead.the-variants as scoreRead
-use Rattle.columns.specs.declared.strand.StrandRead.{StrandRead}
-use Rattle.columns.specs.declared.strand.StrandRead.the-variants as strandRead
-use Rattle.columns.specs.declared.phase.PhaseRead.{PhaseRead}
-use Rattle.columns.specs.declared.phase.PhaseRead.the-variants as phaseRead
-use Rattle.columns.specs.Fields.{strandNumber, phaseNumber}
 use Rattle.answers.specs.declared.Gff3Number.{Gff3Number}
 use Rattle.export_columns.specs.declared.Gff3Bounds.{Gff3Bounds}
 use Rattle.export_columns.specs.declared.Gff3Indexed.{Gff3Indexed}

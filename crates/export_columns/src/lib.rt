@@ -9,9 +9,9 @@ use columns::Bounds;
 use columns::Column;
 use columns::ColumnRead;
 use columns::Indexed;
-use columns::PhaseRead;
 use columns::ScoreRead;
-use columns::StrandRead;
+use tokens::PhaseRead;
+use tokens::StrandRead;
 ghost use mathlib.Core.Path.{_≡_};
 ghost use Rattle.buffer.specs.Answer.{Wrote};
 ghost use Rattle.percent.specs.Percent.{decoded};
@@ -192,7 +192,7 @@ pub extern "C" fn gff3_strand(line: &[u8], bounds: Gff3Bounds) -> Gff3Number
     match columns::strand_at(line, bounds_in(bounds)) {
         StrandRead::Is(strand) => Gff3Number {
             refused: 0,
-            value: columns::strand_number(strand) as u64,
+            value: tokens::strand_number(strand) as u64,
         },
         StrandRead::Refused(n) => Gff3Number {
             refused: n as u64,
@@ -209,7 +209,7 @@ pub extern "C" fn gff3_phase(line: &[u8], bounds: Gff3Bounds) -> Gff3Number
     match columns::phase_at(line, bounds_in(bounds)) {
         PhaseRead::Is(phase) => Gff3Number {
             refused: 0,
-            value: columns::phase_number(phase) as u64,
+            value: tokens::phase_number(phase) as u64,
         },
         PhaseRead::Refused(n) => Gff3Number {
             refused: n as u64,

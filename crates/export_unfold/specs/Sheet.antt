@@ -5,7 +5,7 @@ use mathlib.Core.List.{List}
 use lib.Dec.{ltb}
 use lib.ListN.{length}
 use Rattle.buffer.specs.Answer.{first}
-use Rattle.columns.specs.Fields.{strandNumber, phaseNumber}
+use Rattle.tokens.specs.Tokens.{strandNumber, phaseNumber}
 use Rattle.sheet.specs.Sheet.{sheet-of}
 use Rattle.unfold.specs.declared.judging.Numbers.{Numbers}
 use Rattle.unfold.specs.declared.judging.Judged.{Judged}

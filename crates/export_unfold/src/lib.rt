@@ -42,8 +42,8 @@ fn numbers_of(numbers: Numbers, length: usize) -> Gff3Unfolded
         length,
         start: numbers.start,
         end: numbers.end,
-        strand: columns::strand_number(strand),
-        phase: columns::phase_number(phase),
+        strand: tokens::strand_number(strand),
+        phase: tokens::phase_number(phase),
     }
 }
 

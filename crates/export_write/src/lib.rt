@@ -8,7 +8,7 @@ use directives::Part;
 use marks::Value;
 ghost use mathlib.Core.Path.{_≡_};
 ghost use Rattle.measure.specs.Record.{record-reasons, record-line};
-ghost use Rattle.marks.specs.Comment.{comment-reasons, comment-line};
+ghost use Rattle.comments.specs.Comment.{comment-reasons, comment-line};
 ghost use Rattle.marks.specs.Directive.{directive-reasons, directive-line};
 ghost use Rattle.answers.specs.Answers.{Writes};
 ghost use Rattle.export_write.specs.Value.{partIn, versionIn, valueIn};
@@ -76,7 +76,7 @@ pub extern "C" fn gff3_write_record(
 pub extern "C" fn gff3_write_comment(text: &[u8], out: &mut [u8]) -> Gff3Written
     ensures { λ r. ⌜ Writes (comment-reasons (now (text .entry))) (comment-line (now (text .entry))) (now (out .entry)) (now (out .exit)) r ⌝ }
 {
-    answers::written_of(marks::write_comment(text, out))
+    answers::written_of(comments::write_comment(text, out))
 }
 
 // `##`, the key, and a space and the value where there is one. `first` is the text, the region's name or the build's source, and `second`

@@ -1,4 +1,3 @@
-pub mod JudgeLaws
 pub mod PieceLaws
 pub mod ReasonLaws
 pub mod RoundTrip

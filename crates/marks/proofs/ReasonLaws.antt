@@ -1,4 +1,4 @@
--- What is known of a comment or a directive where no reason holds to refuse it. Assumes nothing.
+-- What is known of a directive where no reason holds to refuse it. Assumes nothing.
 use Prim.Native.Nat.{ℕ, _≤_}
 use mathlib.Core.Path.{_≡_}
 use mathlib.Core.Bool.{Bool, false, _||_}
@@ -10,31 +10,15 @@ use Rattle.lists.proofs.BoolLaws.{or-left, or-right}
 use Rattle.scan.specs.Word.{isSpace}
 use Rattle.buffer.specs.Answer.{first}
 use Rattle.buffer.proofs.AnswerLaws.{none-holds}
+use Rattle.texts.specs.Text.{holds, long}
+use Rattle.texts.proofs.TextLaws.{holds-none}
 use Rattle.marks.specs.declared.directive.Value.{Value}
 use Rattle.marks.specs.declared.directive.Value.the-variants.{None, Text, Version, Region, Build}
-use Rattle.marks.specs.Judge.{holds, long, breaks, reasons}
-use Rattle.marks.specs.Comment.{hashed, comment-reasons}
+use Rattle.marks.specs.Judge.{reasons}
 use Rattle.marks.specs.Version.{version-reasons}
 use Rattle.marks.specs.Region.{region-reasons}
 use Rattle.marks.specs.GenomeBuild.{build-reasons}
 use Rattle.marks.specs.Directive.{Short, directive-reasons}
-use Rattle.marks.proofs.JudgeLaws.{holds-none}
-
--- ── a comment ─────────────────────────────────────────────────────────────────────────────────
-
-pub record Plain (text : List ℕ) : Type 0 where
-  pub short : length text ≤ 1048576
-  pub unbroken : breaks text ≡ false
-  pub unhashed : hashed text ≡ false
-
-pub plain : (text : List ℕ) → first (comment-reasons text) ≡ 0 → Plain text
-unfolding comment-reasons
-plain text e =
-    let a = none-holds (long text) 23 _ e in
-    let b = none-holds (breaks text || hashed text) 19 _ (a .1) in
-    record { short = ltb-false _ _ (a .0); unbroken = or-left (breaks text) (hashed text) (b .0); unhashed = or-right (breaks text) (hashed text) (b .0) }
-
--- ── a directive ───────────────────────────────────────────────────────────────────────────────
 
 -- of the key, and of what is found of the value
 pub record Clear (key : List ℕ) (too-long foreign ill alone zero : Bool) : Type 0 where

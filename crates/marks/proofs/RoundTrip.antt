@@ -1,5 +1,5 @@
--- What the writers accept reads back as it was, and is one line: where no reason holds to refuse it, a comment is read as a comment of the
--- same text, a directive as one of the same key and value text, and a typed value comes back from its own reader. Assumes nothing.
+-- What the writer accepts reads back as it was, and is one line: where no reason holds to refuse it, a directive is read as one of the
+-- same key and value text, and a typed value comes back from its own reader. Assumes nothing.
 use Prim.Native.Nat.{ℕ, _+_, _≤_, _<_}
 use native.Mathlib.Omega.{arith}
 use mathlib.Core.Path.{_≡_, refl, sym, ap, _∙_}
@@ -8,22 +8,21 @@ use mathlib.Core.Bool.{true, false, not, _&&_, true≢false}
 use mathlib.Core.Option.{Option, none, some}
 use mathlib.Core.List.{List, [], _∷_, _++_, append-nil}
 use lib.Dec.{eqb}
-use lib.ListN.{length, getD}
+use lib.ListN.{length}
 use borrow.Author.Tests.{eqb-false}
 use Rattle.lists.specs.Bytes.{Every, Lacks}
 use Rattle.lists.proofs.EveryLaws.{every-append}
 use Rattle.lists.proofs.BoolLaws.{or-left, or-right}
-use Rattle.scan.specs.Find.{is}
 use Rattle.scan.specs.Part.{textAt}
 use Rattle.scan.specs.Word.{isSpace}
 use Rattle.numbers.specs.Decimal.{decimal}
 use Rattle.numbers.specs.Number.{isDigit, most32, most64}
 use Rattle.numbers.proofs.DecimalLaws.{decimal-lacks}
 use Rattle.buffer.specs.Answer.{first}
-use Rattle.lines.specs.declared.kind.Kind.the-variants.{Directive, Comment}
+use Rattle.lines.specs.declared.kind.Kind.the-variants.{Directive}
 use Rattle.lines.specs.Kind.{kind}
 use Rattle.lines.specs.Lines.{OneLine}
-use Rattle.lines.proofs.KindLaws.{kind-comment, kind-directive, ReadsComment, comment-reads, ReadsDirective, directive-reads, directive-reads-alone}
+use Rattle.lines.proofs.KindLaws.{kind-directive, ReadsDirective, directive-reads, directive-reads-alone}
 use Rattle.directives.specs.declared.gff_version.Part.{Part}
 use Rattle.directives.specs.declared.gff_version.Part.the-variants as part
 use Rattle.directives.specs.declared.sequence_region.RegionRead.the-variants as region
@@ -34,41 +33,15 @@ use Rattle.directives.specs.GenomeBuild.{buildOf}
 use Rattle.directives.proofs.VersionLaws.{version-major, version-minor, version-patch}
 use Rattle.directives.proofs.RegionLaws.{region-reads}
 use Rattle.directives.proofs.BuildLaws.{build-reads}
+use Rattle.texts.specs.Text.{breaks, unfit}
+use Rattle.texts.proofs.TextLaws.{no-return, no-feed, fit-word}
 use Rattle.marks.specs.declared.directive.Value.{Value}
 use Rattle.marks.specs.declared.directive.Value.the-variants.{None, Text, Version, Region, Build}
-use Rattle.marks.specs.Judge.{holds, breaks, unfit}
-use Rattle.marks.specs.Comment.{hashed, comment-reasons, comment-line}
 use Rattle.marks.specs.Version.{absent, dotted, version-reasons, version-text}
 use Rattle.marks.specs.Region.{region-reasons, region-text}
 use Rattle.marks.specs.GenomeBuild.{build-reasons, build-text}
 use Rattle.marks.specs.Directive.{directive-reasons, tail, directive-line}
-use Rattle.marks.proofs.JudgeLaws.{holds-none, holds-lacks}
-use Rattle.marks.proofs.ReasonLaws.{plain, clear, clear-key}
-
--- ── a comment ─────────────────────────────────────────────────────────────────────────────────
-
-first-byte : (text : List ℕ) → hashed text ≡ false → getD text 0 0 ≢ 35
-unfolding hashed
-first-byte [] e = λ p. omega arith
-first-byte (x ∷ s) e = eqb-false x 35 e
-
-no-return : (s : List ℕ) → breaks s ≡ false → Lacks 13 s
-no-return s e = holds-lacks 13 s (or-left (holds (is 13) s) (holds (is 10) s) e)
-
-no-feed : (s : List ℕ) → breaks s ≡ false → Lacks 10 s
-no-feed s e = holds-lacks 10 s (or-right (holds (is 13) s) (holds (is 10) s) e)
-
-module _ (text : List ℕ) (accepted : first (comment-reasons text) ≡ 0) where
-  pub comment-kind : kind (comment-line text) ≡ Comment
-  comment-kind = kind-comment text (first-byte text (plain text accepted .unhashed))
-
-  pub comment-back : ReadsComment (comment-line text) text
-  comment-back = comment-reads text (first-byte text (plain text accepted .unhashed))
-
-  pub comment-one : OneLine (comment-line text)
-  comment-one =
-      let e = plain text accepted .unbroken in
-      (((λ p. omega arith), no-feed text e), ((λ p. omega arith), no-return text e))
+use Rattle.marks.proofs.ReasonLaws.{clear, clear-key}
 
 -- ── a directive ───────────────────────────────────────────────────────────────────────────────
 
@@ -88,12 +61,6 @@ tail-back key Text one two h = directive-reads key h one
 tail-back key (Version v) one two h = directive-reads key h (version-text v)
 tail-back key (Region start end) one two h = directive-reads key h (region-text one start end)
 tail-back key Build one two h = directive-reads key h (build-text one two)
-
--- a word: white space nowhere, and a byte
-fit-word : (s : List ℕ) → unfit s ≡ false → Every (λ x. isSpace x ≡ false) s × (0 < length s)
-fit-word s e =
-    let n = eqb-false (length s) 0 (or-left (eqb (length s) 0) (holds isSpace s) e) in
-    (holds-none isSpace s (or-right (eqb (length s) 0) (holds isSpace s) e), omega arith)
 
 -- ── a typed value ─────────────────────────────────────────────────────────────────────────────
 

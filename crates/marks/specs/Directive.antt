@@ -5,9 +5,10 @@ use mathlib.Core.Bool.{false}
 use mathlib.Core.List.{List, [], _∷_, _++_}
 use lib.ListN.{length}
 use Rattle.buffer.specs.Answer.{Reason}
+use Rattle.texts.specs.Text.{long, breaks}
 use Rattle.marks.specs.declared.directive.Value.{Value}
 use Rattle.marks.specs.declared.directive.Value.the-variants.{None, Text, Version, Region, Build}
-use Rattle.marks.specs.Judge.{long, breaks, reasons}
+use Rattle.marks.specs.Judge.{reasons}
 use Rattle.marks.specs.Version.{version-reasons, version-tail}
 use Rattle.marks.specs.Region.{region-reasons, region-tail}
 use Rattle.marks.specs.GenomeBuild.{build-reasons, build-tail}

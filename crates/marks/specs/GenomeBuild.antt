@@ -4,7 +4,8 @@ use mathlib.Core.Bool.{false, not, _||_}
 use mathlib.Core.List.{List, [], _∷_, _++_}
 use Rattle.scan.specs.Same.{same}
 use Rattle.buffer.specs.Answer.{Reason}
-use Rattle.marks.specs.Judge.{long, unfit, reasons}
+use Rattle.texts.specs.Text.{long, unfit}
+use Rattle.marks.specs.Judge.{reasons}
 
 -- `genome-build`
 abbrev pub build-key : List ℕ

@@ -1,4 +1,3 @@
-pub mod Comment
 pub mod Directive
 pub mod GenomeBuild
 pub mod Judge

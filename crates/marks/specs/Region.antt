@@ -6,7 +6,8 @@ use lib.Dec.{eqb}
 use Rattle.scan.specs.Same.{same}
 use Rattle.buffer.specs.Answer.{Reason}
 use Rattle.numbers.specs.Decimal.{decimal}
-use Rattle.marks.specs.Judge.{long, unfit, reasons}
+use Rattle.texts.specs.Text.{long, unfit}
+use Rattle.marks.specs.Judge.{reasons}
 
 -- `sequence-region`
 abbrev pub region-key : List ℕ

@@ -27,8 +27,8 @@ fn refusal(key: &[u8], value: Value, text: &[u8], name: &[u8]) -> u32
     match value {
         Value::None => super::judge::refusal(key, false, false, false, false, false),
         Value::Text => {
-            let long = super::judge::is_long(text);
-            super::judge::refusal(key, long, false, super::judge::breaks(text), false, false)
+            let long = texts::is_long(text);
+            super::judge::refusal(key, long, false, texts::breaks(text), false, false)
         }
         Value::Version(version) => super::gff_version::version_refusal(key, version),
         Value::Region(start, end) => {

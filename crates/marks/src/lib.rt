@@ -1,9 +1,7 @@
-// Comments and directives written into lent buffers: `#` and the text; `##`, the key, and a space and the value where there is one. The
-// caller adds the line feed.
+// Directives written into lent buffers: `##`, the key, and a space and the value where there is one. The caller adds the line feed.
 //
 // Proved: each answer and the whole content of the buffer, for every input; what is accepted reads back as it was, and is one line.
 // Assumes nothing.
-mod comment;
 mod directive;
 mod genome_build;
 mod gff_version;
@@ -11,6 +9,5 @@ mod judge;
 mod pieces;
 mod sequence_region;
 
-pub use comment::write_comment;
 pub use directive::Value;
 pub use directive::write_directive;

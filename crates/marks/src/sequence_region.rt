@@ -10,8 +10,8 @@ pub(crate) fn region_refusal(key: &[u8], name: &[u8], start: u64, end: u64) -> u
     ensures { λ r. ⌜ r ≡ first (region-reasons (now (key .entry)) (now (name .entry)) start end) ⌝ }
 {
     let own = scan::is_same(key, b"sequence-region");
-    let long = super::judge::is_long(name);
-    let unfit = super::judge::is_unfit(name);
+    let long = texts::is_long(name);
+    let unfit = texts::is_unfit(name);
     super::judge::refusal(key, long, !own, unfit, false, (start == 0) | (end == 0))
 }
 

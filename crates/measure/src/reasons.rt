@@ -33,7 +33,7 @@ fn section(sheet: &[u8], at: usize) -> Place
 fn is_bad(score: &[u8]) -> bool
     ensures { λ r. ⌜ r ≡ bad (now (score .entry)) ⌝ }
 {
-    !((score.len() == 0) | columns::is_score(score))
+    !((score.len() == 0) | tokens::is_score(score))
 }
 
 // The first of the reasons that were found, or 0: from the last to the first.

@@ -8,10 +8,10 @@ use columns::Bounds;
 use columns::Column;
 use columns::ColumnRead;
 use columns::Indexed;
-use columns::PhaseRead;
-use columns::PositionRead;
 use columns::ScoreRead;
-use columns::StrandRead;
+use tokens::PhaseRead;
+use tokens::PositionRead;
+use tokens::StrandRead;
 
 fn eight(b: Bounds) {
     show::number(b.reference_sequence_name_end as u64);
@@ -49,14 +49,14 @@ fn score(s: &[u8], answer: ScoreRead) {
 
 fn strand(answer: StrandRead) {
     match answer {
-        StrandRead::Is(which) => show::number(columns::strand_number(which) as u64),
+        StrandRead::Is(which) => show::number(tokens::strand_number(which) as u64),
         StrandRead::Refused(n) => show::refused(n),
     }
 }
 
 fn phase(answer: PhaseRead) {
     match answer {
-        PhaseRead::Is(which) => show::number(columns::phase_number(which) as u64),
+        PhaseRead::Is(which) => show::number(tokens::phase_number(which) as u64),
         PhaseRead::Refused(n) => show::refused(n),
     }
 }

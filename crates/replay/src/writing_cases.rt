@@ -16,8 +16,8 @@ fn numbers(n: Numbers) {
     let shift = n.phase;
     show::number(n.start);
     show::number(n.end);
-    show::number(columns::strand_number(which) as u64);
-    show::number(columns::phase_number(shift) as u64)
+    show::number(tokens::strand_number(which) as u64);
+    show::number(tokens::phase_number(shift) as u64)
 }
 
 // J LINE: the sheet's length, and start, end, strand and phase
@@ -58,7 +58,7 @@ pub(crate) fn unfold_line(line: &[u8], text: &[u8]) {
 pub(crate) fn comment(line: &[u8], text: &[u8]) {
     let mut room = [170u8; ROOM];
     let size = words::number(line, 2) as usize;
-    let answer = marks::write_comment(text, words::front(&mut room, size));
+    let answer = comments::write_comment(text, words::front(&mut room, size));
     show::written(answer, scan::part(&room, 0, size))
 }
 

@@ -25,7 +25,7 @@ use Rattle.unfold.specs.Unfold.{contents as sheet-left}
 use Rattle.lines.specs.Lines.{text}
 use Rattle.lines.specs.Step.{steps}
 use Rattle.lines.proofs.StepLaws.{steps-lines}
-use Rattle.columns.specs.Fields.{strandNumber, phaseNumber}
+use Rattle.tokens.specs.Tokens.{strandNumber, phaseNumber}
 use Rattle.measure.specs.Record.{record-reasons, record-line}
 use Rattle.rewrite.specs.Rewrite.{room, sheet-from, line-again, refusal, said, written-again, record-again, line-rewritten, rewritten}
 

@@ -8,9 +8,9 @@ use Rattle.numbers.specs.Number.{allDigits, someDigits, value-after, numeral}
 use Rattle.numbers.specs.Decimal.{digits}
 use Rattle.percent.specs.Percent.{isHex, hexValue, hexDigit, decoded, escape, piece, encoded}
 use Rattle.percent.specs.Sets.{escapes}
+use Rattle.tokens.specs.Tokens.{strandNumber, phaseNumber, positionText, strandText, phaseText}
+use Rattle.tokens.specs.Score.{sansSign, sansMinus, isExponent, isFraction, isScore}
 use Rattle.columns.specs.Columns.{end, columnPlace}
-use Rattle.columns.specs.Fields.{strandNumber, phaseNumber, positionText, strandText, phaseText}
-use Rattle.columns.specs.Score.{sansSign, sansMinus, isExponent, isFraction, isScore}
 use Rattle.attributes.specs.Pieces.{pieces-after, prefixed, joined}
 use Rattle.attributes.specs.Attributes as column9
 use Rattle.attributes.specs.Written.{written, column}

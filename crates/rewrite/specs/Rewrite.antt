@@ -11,7 +11,7 @@ use Rattle.lines.specs.declared.kind.Kind.{Kind}
 use Rattle.lines.specs.declared.kind.Kind.the-variants.{Directive, Comment, Record}
 use Rattle.lines.specs.Kind.{kind}
 use Rattle.lines.specs.Lines.{lines, text}
-use Rattle.columns.specs.Fields.{strandNumber, phaseNumber}
+use Rattle.tokens.specs.Tokens.{strandNumber, phaseNumber}
 use Rattle.sheet.specs.Sheet.{sheet-of}
 use Rattle.unfold.specs.declared.judging.Numbers.{Numbers}
 use Rattle.unfold.specs.Unfold.{unfolded, numbers-of, unfold-reasons}

@@ -32,8 +32,8 @@ fn write_again(sheet: &[u8], numbers: Numbers, out: &mut [u8]) -> usize
 {
     let strand = numbers.strand;
     let phase = numbers.phase;
-    let strand = columns::strand_number(strand);
-    let phase = columns::phase_number(phase);
+    let strand = tokens::strand_number(strand);
+    let phase = tokens::phase_number(phase);
     match record::write_record(sheet, numbers.start, numbers.end, strand, phase, out) {
         Written::Done(n) => n,
         Written::Refused(n) => refuse(n, out),

@@ -12,19 +12,19 @@ use borrow.Author.Tests.{eqb-false, ltb-false, ne-eqb}
 use Rattle.lists.specs.Bytes.{Bytes, Lacks}
 use Rattle.buffer.specs.Answer.{first}
 use Rattle.buffer.proofs.AnswerLaws.{none-holds}
-use Rattle.columns.specs.declared.strand.Strand.{Strand}
-use Rattle.columns.specs.declared.strand.Strand.the-variants as strand
-use Rattle.columns.specs.declared.strand.StrandRead.the-variants as strandRead
-use Rattle.columns.specs.declared.phase.Phase.{Phase}
-use Rattle.columns.specs.declared.phase.Phase.the-variants as phase
-use Rattle.columns.specs.declared.phase.PhaseRead.the-variants as phaseRead
-use Rattle.columns.specs.Fields as fields
+use Rattle.tokens.specs.declared.strand.Strand.{Strand}
+use Rattle.tokens.specs.declared.strand.Strand.the-variants as strand
+use Rattle.tokens.specs.declared.strand.StrandRead.the-variants as strandRead
+use Rattle.tokens.specs.declared.phase.Phase.{Phase}
+use Rattle.tokens.specs.declared.phase.Phase.the-variants as phase
+use Rattle.tokens.specs.declared.phase.PhaseRead.the-variants as phaseRead
+use Rattle.tokens.specs.Tokens as fields
 use Rattle.lists.proofs.BoolLaws.{or-left, or-right}
 use Rattle.scan.specs.Same.{isDot}
-use Rattle.columns.specs.Fields.{strandNumber, strandText, phaseNumber, phaseText}
-use Rattle.columns.specs.Score.{isScore}
-use Rattle.columns.proofs.FieldsLaws.{strand-back, phase-back}
-use Rattle.columns.proofs.ScoreLaws.{isScoreByte, score-lacks, score-no-dot}
+use Rattle.tokens.specs.Tokens.{strandNumber, strandText, phaseNumber, phaseText}
+use Rattle.tokens.specs.Score.{isScore}
+use Rattle.tokens.proofs.TokensLaws.{strand-back, phase-back}
+use Rattle.tokens.proofs.ScoreLaws.{isScoreByte, score-lacks, score-no-dot}
 use Rattle.sheet.specs.Sheet.{Sheet, sheet-read, isSome, sheet-of}
 use Rattle.sheet.proofs.SheetLaws.{GoodSheet, of-read}
 use Rattle.measure.specs.Record.{asked, badScore, record-reasons, strandByteOf, phaseByteOf, scoreOf}

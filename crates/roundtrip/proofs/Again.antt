@@ -9,9 +9,9 @@ use lib.ListN.{length, take, drop}
 use lib.Seq.{take-append-seam}
 use Rattle.lists.specs.Bytes.{Bytes}
 use Rattle.buffer.specs.Answer.{first}
+use Rattle.tokens.specs.Tokens.{strandNumber, phaseNumber}
 use Rattle.columns.specs.declared.column.Column.the-variants as column
 use Rattle.columns.specs.Columns.{columnText}
-use Rattle.columns.specs.Fields.{strandNumber, phaseNumber}
 use Rattle.sheet.specs.Sheet.{sheet-of}
 use Rattle.measure.specs.Record.{record-reasons, record-line}
 use Rattle.unfold.specs.declared.judging.Numbers.{Numbers}

@@ -20,13 +20,13 @@ use Rattle.lines.specs.Kind.{kind}
 use Rattle.lines.specs.Lines.{OneLine}
 use Rattle.attributes.specs.Attributes.{attributes, walk}
 use Rattle.attributes.proofs.WrittenLaws.{walk-column}
+use Rattle.tokens.specs.declared.position.PositionRead.the-variants as positionRead
+use Rattle.tokens.specs.declared.strand.StrandRead.the-variants as strandRead
+use Rattle.tokens.specs.declared.phase.PhaseRead.the-variants as phaseRead
+use Rattle.tokens.specs.Tokens.{positionText, strandText, phaseText}
 use Rattle.columns.specs.declared.column.Column.{Column}
 use Rattle.columns.specs.declared.column.Column.the-variants as column
-use Rattle.columns.specs.declared.position.PositionRead.the-variants as positionRead
-use Rattle.columns.specs.declared.strand.StrandRead.the-variants as strandRead
-use Rattle.columns.specs.declared.phase.PhaseRead.the-variants as phaseRead
 use Rattle.columns.specs.Columns.{isRecord, columnText}
-use Rattle.columns.specs.Fields.{positionText, strandText, phaseText}
 use Rattle.columns.proofs.ColumnsLaws.{tabsBefore, row-record, row-text}
 use Rattle.sheet.specs.Sheet.{sheet-read, sheet-of}
 use Rattle.measure.specs.Record.{columns, record-reasons, record-line}

@@ -6,7 +6,7 @@ use mathlib.Core.List.{List, _++_}
 use lib.ListN.{length, drop}
 use Rattle.lines.specs.declared.kind.Kind.the-variants.{Record}
 use Rattle.lines.specs.Kind.{kind}
-use Rattle.columns.specs.Fields.{strandNumber, phaseNumber}
+use Rattle.tokens.specs.Tokens.{strandNumber, phaseNumber}
 use Rattle.unfold.specs.declared.judging.Numbers.{Numbers}
 use Rattle.unfold.specs.declared.lay.Unfolded.{Unfolded}
 use Rattle.unfold.specs.declared.lay.Unfolded.the-variants.{Done}

@@ -9,17 +9,17 @@ use lib.ListN.{length}
 use Rattle.lists.specs.Bytes.{Every}
 use Rattle.scan.specs.Same.{isDot}
 use Rattle.buffer.specs.Answer.{Reason, first}
+use Rattle.tokens.specs.declared.position.PositionRead.the-variants as position
+use Rattle.tokens.specs.declared.strand.Strand.{Strand}
+use Rattle.tokens.specs.declared.strand.StrandRead.the-variants as strands
+use Rattle.tokens.specs.declared.phase.Phase.{Phase}
+use Rattle.tokens.specs.declared.phase.PhaseRead.the-variants as phases
+use Rattle.tokens.specs.Tokens.{positionText, strandText, phaseText}
 use Rattle.columns.specs.declared.bounds.Bounds.{Bounds}
 use Rattle.columns.specs.declared.bounds.Indexed.the-variants as indexing
 use Rattle.columns.specs.declared.column.Column.{Column}
 use Rattle.columns.specs.declared.column.Column.the-variants as column
-use Rattle.columns.specs.declared.position.PositionRead.the-variants as position
-use Rattle.columns.specs.declared.strand.Strand.{Strand}
-use Rattle.columns.specs.declared.strand.StrandRead.the-variants as strands
-use Rattle.columns.specs.declared.phase.Phase.{Phase}
-use Rattle.columns.specs.declared.phase.PhaseRead.the-variants as phases
 use Rattle.columns.specs.Columns.{ends, isRecord, indexed, columnPlace, columnText}
-use Rattle.columns.specs.Fields.{positionText, strandText, phaseText}
 use Rattle.percent.proofs.PercentLaws.{length-decoded}
 use Rattle.attributes.specs.Attributes.{Attribute, attributes, walk}
 use Rattle.sheet.specs.Sheet.{attribute-of, sheet-of}

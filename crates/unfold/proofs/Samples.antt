@@ -7,11 +7,11 @@ use Rattle.scan.specs.Same.{isDot}
 use Rattle.scan.specs.Find.{index, seek}
 use Rattle.numbers.specs.Number.{allDigits, someDigits, value-after, numeral}
 use Rattle.percent.specs.Percent.{isHex, hexValue, decoded}
-use Rattle.columns.specs.declared.strand.Strand.the-variants as strand
-use Rattle.columns.specs.declared.phase.Phase.the-variants as phase
+use Rattle.tokens.specs.declared.strand.Strand.the-variants as strand
+use Rattle.tokens.specs.declared.phase.Phase.the-variants as phase
+use Rattle.tokens.specs.Tokens.{positionText, strandText, phaseText}
+use Rattle.tokens.specs.Score.{sansSign, sansMinus, isExponent, isFraction, isScore}
 use Rattle.columns.specs.Columns.{end, columnPlace}
-use Rattle.columns.specs.Fields.{positionText, strandText, phaseText}
-use Rattle.columns.specs.Score.{sansSign, sansMinus, isExponent, isFraction, isScore}
 use Rattle.attributes.specs.Pieces.{pieces-after}
 use Rattle.attributes.specs.Attributes as column9
 use Rattle.sheet.specs.Sheet.{number-of, section-of, counted-of, attribute-of, sheet-of}

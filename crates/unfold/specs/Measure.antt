@@ -4,9 +4,9 @@ use mathlib.Core.List.{List, [], _∷_, flatMap}
 use mathlib.Core.Option.{Option, none, some}
 use lib.ListN.{length}
 use Rattle.buffer.specs.Answer.{Reason, _when_, first}
+use Rattle.tokens.specs.Tokens.{positionText, strandText, phaseText}
 use Rattle.columns.specs.declared.column.Column.the-variants as column
 use Rattle.columns.specs.Columns.{ends, columnText}
-use Rattle.columns.specs.Fields.{positionText, strandText, phaseText}
 use Rattle.attributes.specs.Attributes.{Attribute, attributes, walk}
 use Rattle.sheet.specs.Sheet.{Sheet, attribute-of, sheet-of}
 use Rattle.unfold.specs.declared.judging.Measured.{Measured}

@@ -10,20 +10,20 @@ use lib.ListN.{length, drop}
 use Rattle.scan.specs.Same.{isDot}
 use Rattle.buffer.specs.Answer.{Reason, _when_, first}
 use Rattle.percent.specs.Percent.{decoded}
+use Rattle.tokens.specs.declared.position.PositionRead.{PositionRead}
+use Rattle.tokens.specs.declared.position.PositionRead.the-variants as positionRead
+use Rattle.tokens.specs.declared.strand.Strand.{Strand}
+use Rattle.tokens.specs.declared.strand.Strand.the-variants as strand
+use Rattle.tokens.specs.declared.strand.StrandRead.{StrandRead}
+use Rattle.tokens.specs.declared.strand.StrandRead.the-variants as strandRead
+use Rattle.tokens.specs.declared.phase.Phase.{Phase}
+use Rattle.tokens.specs.declared.phase.Phase.the-variants as phase
+use Rattle.tokens.specs.declared.phase.PhaseRead.{PhaseRead}
+use Rattle.tokens.specs.declared.phase.PhaseRead.the-variants as phaseRead
+use Rattle.tokens.specs.Tokens.{positionText, strandText, phaseText}
+use Rattle.tokens.specs.Score.{isScore}
 use Rattle.columns.specs.declared.column.Column.the-variants as column
-use Rattle.columns.specs.declared.position.PositionRead.{PositionRead}
-use Rattle.columns.specs.declared.position.PositionRead.the-variants as positionRead
-use Rattle.columns.specs.declared.strand.Strand.{Strand}
-use Rattle.columns.specs.declared.strand.Strand.the-variants as strand
-use Rattle.columns.specs.declared.strand.StrandRead.{StrandRead}
-use Rattle.columns.specs.declared.strand.StrandRead.the-variants as strandRead
-use Rattle.columns.specs.declared.phase.Phase.{Phase}
-use Rattle.columns.specs.declared.phase.Phase.the-variants as phase
-use Rattle.columns.specs.declared.phase.PhaseRead.{PhaseRead}
-use Rattle.columns.specs.declared.phase.PhaseRead.the-variants as phaseRead
 use Rattle.columns.specs.Columns.{isRecord, columnText}
-use Rattle.columns.specs.Fields.{positionText, strandText, phaseText}
-use Rattle.columns.specs.Score.{isScore}
 use Rattle.attributes.specs.Attributes.{Attribute, attributes, walk}
 use Rattle.sheet.specs.Sheet.{Sheet, sheet-of}
 use Rattle.unfold.specs.declared.judging.Numbers.{Numbers}

@@ -4,11 +4,11 @@ use attributes::Step;
 use attributes::ValueCursor;
 use columns::Bounds;
 use columns::Indexed;
-use columns::Phase;
-use columns::PhaseRead;
-use columns::PositionRead;
-use columns::Strand;
-use columns::StrandRead;
+use tokens::Phase;
+use tokens::PhaseRead;
+use tokens::PositionRead;
+use tokens::Strand;
+use tokens::StrandRead;
 ghost use mathlib.Core.Path.{_≡_};
 ghost use Prim.Native.Nat.{_+_, _*_, _≤_};
 ghost use lib.ListN.{length};
@@ -123,23 +123,23 @@ fn fields(line: &[u8], bounds: Bounds) -> Measured
 {
     let b = bounds;
     let start_text = super::texts::column(line, b.type_end, b.start_end);
-    let PositionRead::Is(start) = columns::position_of(start_text) else {
+    let PositionRead::Is(start) = tokens::position_of(start_text) else {
         return Measured::Refused(2);
     };
     let end_text = super::texts::column(line, b.start_end, b.end_end);
-    let PositionRead::Is(end) = columns::position_of(end_text) else {
+    let PositionRead::Is(end) = tokens::position_of(end_text) else {
         return Measured::Refused(2);
     };
     let token = super::texts::column(line, b.end_end, b.score_end);
-    if !(scan::is_dot(token) | columns::is_score(token)) {
+    if !(scan::is_dot(token) | tokens::is_score(token)) {
         return Measured::Refused(17);
     }
     let strand_text = super::texts::column(line, b.score_end, b.strand_end);
-    let StrandRead::Is(strand) = columns::strand_of(strand_text) else {
+    let StrandRead::Is(strand) = tokens::strand_of(strand_text) else {
         return Measured::Refused(3);
     };
     let phase_text = super::texts::column(line, b.strand_end, b.phase_end);
-    let PhaseRead::Is(phase) = columns::phase_of(phase_text) else {
+    let PhaseRead::Is(phase) = tokens::phase_of(phase_text) else {
         return Measured::Refused(4);
     };
     let rest = scan::part(line, b.phase_end, line.len());

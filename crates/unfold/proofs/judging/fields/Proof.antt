@@ -5,12 +5,12 @@ use borrow.Author.Needs.{needs}
 use mathlib.Core.Path.{_≡_, sym, ap₂, _∙_}
 use mathlib.Core.Bool.{Bool, false, not, _||_}
 use lib.ListN.{length}
+use Rattle.tokens.specs.declared.position.PositionRead.the-variants as position
+use Rattle.tokens.specs.declared.strand.StrandRead.the-variants as strands
+use Rattle.tokens.specs.declared.phase.PhaseRead.the-variants as phases
+use Rattle.tokens.specs.Tokens.{positionText, strandText, phaseText}
 use Rattle.columns.specs.declared.column.Column.the-variants as column
-use Rattle.columns.specs.declared.position.PositionRead.the-variants as position
-use Rattle.columns.specs.declared.strand.StrandRead.the-variants as strands
-use Rattle.columns.specs.declared.phase.PhaseRead.the-variants as phases
 use Rattle.columns.specs.Columns.{end, ends, columnPlace, columnText}
-use Rattle.columns.specs.Fields.{positionText, strandText, phaseText}
 use Rattle.attributes.specs.Attributes.{attributes, walk}
 use Rattle.unfold.specs.Unfold.{noScore}
 use Rattle.unfold.specs.Measure.{sized}

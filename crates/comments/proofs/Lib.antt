@@ -1,0 +1,3 @@
+pub mod ReasonLaws
+pub mod RoundTrip
+mod Unique

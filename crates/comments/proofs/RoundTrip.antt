@@ -1,0 +1,35 @@
+-- What the writer accepts reads back as it was, and is one line: where no reason holds to refuse it, a comment is read as a comment of
+-- the same text. Assumes nothing.
+use Prim.Native.Nat.{ℕ}
+use native.Mathlib.Omega.{arith}
+use mathlib.Core.Path.{_≡_}
+use mathlib.Core.Logic.{_≢_}
+use mathlib.Core.Bool.{false}
+use mathlib.Core.List.{List, [], _∷_}
+use lib.ListN.{getD}
+use borrow.Author.Tests.{eqb-false}
+use Rattle.buffer.specs.Answer.{first}
+use Rattle.lines.specs.declared.kind.Kind.the-variants.{Comment}
+use Rattle.lines.specs.Kind.{kind}
+use Rattle.lines.specs.Lines.{OneLine}
+use Rattle.lines.proofs.KindLaws.{kind-comment, ReadsComment, comment-reads}
+use Rattle.texts.proofs.TextLaws.{no-return, no-feed}
+use Rattle.comments.specs.Comment.{hashed, comment-reasons, comment-line}
+use Rattle.comments.proofs.ReasonLaws.{plain}
+
+first-byte : (text : List ℕ) → hashed text ≡ false → getD text 0 0 ≢ 35
+unfolding hashed
+first-byte [] e = λ p. omega arith
+first-byte (x ∷ s) e = eqb-false x 35 e
+
+module _ (text : List ℕ) (accepted : first (comment-reasons text) ≡ 0) where
+  pub comment-kind : kind (comment-line text) ≡ Comment
+  comment-kind = kind-comment text (first-byte text (plain text accepted .unhashed))
+
+  pub comment-back : ReadsComment (comment-line text) text
+  comment-back = comment-reads text (first-byte text (plain text accepted .unhashed))
+
+  pub comment-one : OneLine (comment-line text)
+  comment-one =
+      let e = plain text accepted .unbroken in
+      (((λ p. omega arith), no-feed text e), ((λ p. omega arith), no-return text e))

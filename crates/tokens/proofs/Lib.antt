@@ -1,0 +1,4 @@
+pub mod ScoreLaws
+pub mod TokensLaws
+mod Samples
+mod Unique
