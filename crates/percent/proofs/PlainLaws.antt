@@ -1,35 +1,16 @@
--- A run of bytes that no set escapes stands for itself. Assumes nothing.
+-- A run of bytes that a set lets stand stands for itself. Assumes nothing.
 use Prim.Native.Nat.{ℕ, suc, _+_, _-_, _≤_, _<_}
 use native.Mathlib.Omega.{arith}
-use mathlib.Core.Path.{_≡_, refl, sym, ap, _∙_}
-use mathlib.Core.Bool.{Bool, true, false, not, _||_, true≢false}
+use mathlib.Core.Path.{_≡_, refl, _∙_}
+use mathlib.Core.Bool.{Bool, false}
 use mathlib.Core.List.{List, [], _∷_, _++_, append-assoc}
 use lib.ListN.{length, take, drop, getD, length-drop}
 use lib.Seq.{take-suc, getD-drop}
-use Rattle.lists.proofs.TableLaws.{below, below-holds}
 use Rattle.scan.specs.Part.{part}
 use Rattle.scan.proofs.PartLaws.{part-none}
-use Rattle.percent.specs.declared.set.Set.{Set}
-use Rattle.percent.specs.declared.set.Set.the-variants.{Name, Column, Attribute}
 use Rattle.percent.specs.Percent.{piece, encoded, count}
-use Rattle.percent.specs.Sets.{escapes}
 use Rattle.percent.specs.Unit.{Plain}
 use Rattle.percent.proofs.CursorLaws.{encoded-next, count-next}
-
--- column 1 escapes what any set does: computed at each byte
-widest : (set : Set) (b : ℕ) → b < 256 → (escapes Name b || not (escapes set b)) ≡ true
-unfolding escapes
-widest Name b h = below-holds 256 (λ b. escapes Name b || not (escapes Name b)) refl b h
-widest Column b h = below-holds 256 (λ b. escapes Name b || not (escapes Column b)) refl b h
-widest Attribute b h = below-holds 256 (λ b. escapes Name b || not (escapes Attribute b)) refl b h
-
-pub plain-none : (set : Set) (b : ℕ) → b < 256 → not (escapes Name b) ≡ true → escapes set b ≡ false
-plain-none set b h e = go (escapes Name b) (escapes set b) e (widest set b h)
-  where
-    go : (x y : Bool) → not x ≡ true → (x || not y) ≡ true → y ≡ false
-    go true y e f = absurd (true≢false (sym e))
-    go false true e f = absurd (true≢false (sym f))
-    go false false e f = refl
 
 part-next : (a i : ℕ) (s : List ℕ) → a ≤ i → i < length s → part a i s ++ (getD s i 0 ∷ []) ≡ part a (i + 1) s
 part-next a i s h l =

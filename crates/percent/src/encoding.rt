@@ -6,7 +6,6 @@ ghost use Prim.Native.Nat.{_≤_};
 ghost use lib.ListN.{length};
 ghost use Rattle.buffer.specs.Answer.{Wrote};
 ghost use Rattle.buffer.specs.Laid.{Lays};
-ghost use Rattle.percent.specs.declared.set.Set.{Set};
 ghost use Rattle.percent.specs.Percent.{escape, piece, encoded, count};
 ghost use Rattle.percent.specs.Unit.{Plain};
 ghost use Rattle.percent.specs.Sets.{escapes, encode-reasons};
@@ -14,15 +13,15 @@ ghost use Rattle.percent.specs.Sets.{escapes, encode-reasons};
 // The longest text that is percent-encoded.
 const LONGEST: usize = 1048576;
 
-// Where the bytes from `from` on that no set escapes end: the first that one does, or the length.
-fn plain_end(s: &[u8], from: usize) -> usize
+// Where the bytes from `from` on that a set lets stand end: the first that it escapes, or the length.
+fn plain_end(set: Set, s: &[u8], from: usize) -> usize
     requires { ⌜ from ≤ length (now s) ⌝ }
-    ensures run { λ r. ⌜ ((set : Set) → Plain (escapes set) (now (s .entry)) from r) ⌝ }
+    ensures run { λ r. ⌜ Plain (escapes set) (now (s .entry)) from r ⌝ }
     ensures within { λ r. ⌜ (from ≤ r) × (r ≤ length (now (s .entry))) ⌝ }
 {
     let mut i = from;
     while i < s.len() {
-        if !super::set::is_plain(s[i]) {
+        if !super::set::is_plain(set, s[i]) {
             return i;
         }
         i += 1;
@@ -35,10 +34,10 @@ pub fn count_escaped(set: Set, s: &[u8]) -> usize
     ensures { λ r. ⌜ (r ≡ count (escapes set) (now (s .entry))) × (r ≤ length (now (s .entry))) ⌝ }
 {
     let mut n: usize = 0;
-    let mut i = plain_end(s, 0);
+    let mut i = plain_end(set, s, 0);
     while i < s.len() {
         n += super::set::escaped(set, s[i]) as usize;
-        i = plain_end(s, i + 1);
+        i = plain_end(set, s, i + 1);
     }
     n
 }
@@ -66,11 +65,11 @@ fn lay_piece(set: Set, b: u8, out: &mut [u8], at: usize) -> usize
 pub fn lay_encoded(set: Set, s: &[u8], out: &mut [u8], at: usize) -> usize
     ensures { λ r. ⌜ Lays (encoded (escapes set) (now (s .entry))) (now (out .entry)) at (now (out .exit)) r ⌝ }
 {
-    let mut i = plain_end(s, 0);
+    let mut i = plain_end(set, s, 0);
     let mut to = buffer::lay(scan::part(s, 0, i), out, at);
     while i < s.len() {
         to = lay_piece(set, s[i], out, to);
-        let next = plain_end(s, i + 1);
+        let next = plain_end(set, s, i + 1);
         to = buffer::lay(scan::part(s, i + 1, next), out, to);
         i = next;
     }

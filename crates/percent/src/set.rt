@@ -1,10 +1,8 @@
 // The three sets of bytes that are escaped. Each holds the next: column 1 escapes what tags and values do, and these what columns 2
 // and 3 do. So one number a byte says it all: the smallest set that escapes it.
 ghost use mathlib.Core.Path.{_≡_};
-ghost use mathlib.Core.Bool.{true, false, not};
-ghost use Rattle.percent.specs.declared.set.Set.{Set};
-ghost use Rattle.percent.specs.declared.set.Set.the-variants.{Name};
-ghost use Rattle.percent.specs.Sets.{escapes};
+ghost use mathlib.Core.Bool.{not};
+ghost use Rattle.percent.specs.Sets.{bitOf, escapes};
 
 pub enum Set {
     // Column 1, the reference sequence name.
@@ -275,25 +273,40 @@ const ESCAPES: [u8; 256] = [
     3, // 0xFF
 ];
 
-// The bytes of class 0 below 64, and those from 64 on, a bit a byte: `-` `.` `:` `!` `$` `*` `+` `?` and the digits; `@` `^` `_` `|` and the
-// letters.
-const PLAIN_LOW: u64 = 9799670138746699776;
+// A bit a byte: those below 128 that a set lets stand, the first word from 0 on and the second from 64 on.
+const NAME_LOW: u64 = 9799670138746699776;
 
-const PLAIN_HIGH: u64 = 1729382251675779071;
+const NAME_HIGH: u64 = 1729382251675779071;
 
-// Whether no set escapes a byte. The table is laid out anew wherever it is asked, so these, which most bytes of a text are, are told by
-// two words.
-pub(crate) fn is_plain(b: u8) -> bool
-    ensures exact { λ r. ⌜ r ≡ not (escapes Name b) ⌝ }
-    ensures plain { λ r. ⌜ (r ≡ true → (set : Set) → escapes set b ≡ false) ⌝ }
+const ATTRIBUTE_LOW: u64 = 15564422303394562048;
+
+const ATTRIBUTE_HIGH: u64 = 9223372036854775807;
+
+const COLUMN_LOW: u64 = 18446743931975630848;
+
+const COLUMN_HIGH: u64 = 9223372036854775807;
+
+fn bit(low: u64, high: u64, b: u8) -> bool
+    ensures { λ r. ⌜ r ≡ bitOf low high b ⌝ }
 {
     if b < 64 {
-        return (PLAIN_LOW >> (b as u32)) % 2 == 1;
+        return (low >> (b as u32)) % 2 == 1;
     }
     if b < 128 {
-        return (PLAIN_HIGH >> ((b - 64) as u32)) % 2 == 1;
+        return (high >> ((b - 64) as u32)) % 2 == 1;
     }
     false
+}
+
+// Whether a set lets a byte stand. The table is laid out anew wherever it is asked; these are most bytes of a text, and two words tell them.
+pub(crate) fn is_plain(set: Set, b: u8) -> bool
+    ensures { λ r. ⌜ r ≡ not (escapes set b) ⌝ }
+{
+    match set {
+        Set::Name => bit(NAME_LOW, NAME_HIGH, b),
+        Set::Attribute => bit(ATTRIBUTE_LOW, ATTRIBUTE_HIGH, b),
+        Set::Column => bit(COLUMN_LOW, COLUMN_HIGH, b),
+    }
 }
 
 // Whether a set escapes a byte.

@@ -24,7 +24,7 @@ as-number true = (refl, omega arith)
 as-number false = (refl, omega arith)
 
 loop-holds : tie.Need-loop-holds Inv-loop μ-loop
-loop-holds c = (c .plain-end .ensures .1 .1, omega arith, omega (arith, c .plain-end .ensures .0 (c .before .before .args .set) .none))
+loop-holds c = (c .plain-end .ensures .1 .1, omega arith, omega (arith, c .plain-end .ensures .0 .none))
 
 loop-again : tie.Need-loop-again Inv-loop μ-loop
 loop-again c =
@@ -35,7 +35,7 @@ loop-again c =
     let n = as-number (one .escaped .result) in
     let e : cond (escapes (a .set) (getD (a .s .now) (l .i) 0)) 1 0 ≡ boolByte (one .escaped .result) = rw (← one .escaped .ensures) (sym (n .0)) in
     let more = count-next (escapes (a .set)) (a .s .now) (l .i) (turn .loop-test .taken) in
-    let run = c .plain-end2 .ensures .0 (a .set) .none in
+    let run = c .plain-end2 .ensures .0 .none in
     (c .plain-end2 .ensures .1 .1, omega (arith, n .1, c .plain-end2 .ensures .1 .0), omega arith)
 
 returns : tie.Need-returns Inv-loop μ-loop

@@ -37,7 +37,7 @@ loop-again c =
     let k = rw (run .part2 .ensures) at (laid .lay2 .ensures) in (
       omega (arith, lays-length k, k .end),
       p .plain-end2 .ensures .1 .1,
-      lays-rest (rw (p .plain-end2 .ensures .0 (a .set) .text) at one) k,
+      lays-rest (rw (p .plain-end2 .ensures .0 .text) at one) k,
     )
 
 -- the run that the text begins with, and what the loop laid
@@ -50,7 +50,7 @@ returns c =
     let a = p .before .before .before .args in
     let k = rw (run .part .ensures) at (laid .lay .ensures) in
     let more = none-left (l .inv .0) (rw (encoded-end (escapes (a .set)) (a .s .now) (l .i) (c .loop-test .left)) at (l .inv .2)) in
-    rw (p .plain-end .ensures .0 (a .set) .text) (lays-then k more)
+    rw (p .plain-end .ensures .0 .text) (lays-then k more)
 
 pub lay-encoded-spec : {M : Type 1} → statement M
 lay-encoded-spec =

@@ -2,9 +2,9 @@
 use Prim.Native.Nat.{_-_, _≤_}
 use native.Mathlib.Omega.{arith}
 use borrow.Author.Needs.{needs}
-use borrow.Author.Tests.{not-false}
+use borrow.Author.Tests.{not-true, not-false}
+use mathlib.Core.Path.{sym, _∙_}
 use lib.ListN.{length}
-use Rattle.percent.specs.declared.set.Set.{Set}
 use Rattle.percent.specs.Sets.{escapes}
 use Rattle.percent.specs.Unit.{Plain}
 use Rattle.percent.proofs.PlainLaws.{plain-start, plain-next}
@@ -12,19 +12,19 @@ use Rattle.percent.proofs.encoding.plain_end.Statement.{statement}
 use Rattle.percent.proofs.encoding.plain_end.Tie as tie
 
 abbrev Inv-loop : tie.InvT-loop
-Inv-loop s from i₀ i = (from ≤ i) × (i ≤ length s) × ((set : Set) → Plain (escapes set) s from i)
+Inv-loop set s from i₀ i = (from ≤ i) × (i ≤ length s) × Plain (escapes set) s from i
 
 abbrev μ-loop : tie.MeasureT-loop
-μ-loop s from i₀ i = length s - i
+μ-loop set s from i₀ i = length s - i
 
 loop-again : tie.Need-loop-again Inv-loop μ-loop
 loop-again c =
     let p = c .before in
     let turn = p .before .before in
     let l = turn .before .loop in
-    let s = turn .before .before .before .args .s .now in
-    let e = p .is-plain .ensures .1 (not-false _ (c .if1 .left)) in
-    (omega arith, omega arith, λ set. plain-next (escapes set) s _ (l .i) (l .inv .0) (turn .loop-test .taken) (e set) (l .inv .2 set))
+    let a = turn .before .before .before .args in
+    let e = not-true _ (sym (p .is-plain .ensures) ∙ not-false _ (c .if1 .left)) in
+    (omega arith, omega arith, plain-next (escapes (a .set)) (a .s .now) _ (l .i) (l .inv .0) (turn .loop-test .taken) e (l .inv .2))
 
 pub plain-end-spec : {M : Type 1} → statement M
 plain-end-spec =
@@ -32,7 +32,7 @@ plain-end-spec =
     (tie.spec
     Inv-loop
     μ-loop
-    (λ c. (omega arith, c .before .pre, λ set. plain-start (escapes set) _ _))
+    (λ c. (omega arith, c .before .pre, plain-start _ _ _))
     (λ c. search needs)
     (λ c κs. tt)
     (λ c. let l = c .before .before .before .before .loop in (l .inv .2, (l .inv .0, l .inv .1)))
