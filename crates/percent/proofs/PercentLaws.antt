@@ -57,6 +57,20 @@ length-decoded (x ∷ y ∷ z ∷ s) = go (eqb x 37 && isHex y && isHex z) (leng
     go true p q = omega arith
     go false p q = omega arith
 
+-- and where it is no shorter it is the text itself
+pub decoded-same : (s : List ℕ) → length (decoded s) ≡ length s → decoded s ≡ s
+unfolding decoded
+decoded-same [] e = refl
+decoded-same (x ∷ []) e = refl
+decoded-same (x ∷ y ∷ []) e = refl
+decoded-same (x ∷ y ∷ z ∷ s) e = go (eqb x 37 && isHex y && isHex z) (length-decoded s) (λ h. decoded-same (y ∷ z ∷ s) h) e
+  where
+    go : (t : Bool) → length (decoded s) ≤ length s → (length (decoded (y ∷ z ∷ s)) ≡ suc (suc (length s)) → decoded (y ∷ z ∷ s) ≡ y ∷ z ∷ s)
+        → length (cond t ((hexValue y * 16 + hexValue z) ∷ decoded s) (x ∷ decoded (y ∷ z ∷ s))) ≡ suc (suc (suc (length s)))
+        → cond t ((hexValue y * 16 + hexValue z) ∷ decoded s) (x ∷ decoded (y ∷ z ∷ s)) ≡ x ∷ y ∷ z ∷ s
+    go true p q e = absurd (omega arith)
+    go false p q e = ap (λ (r : List ℕ). x ∷ r) (q (omega arith))
+
 decoded-escape : (x : ℕ) (s : List ℕ) → x < 256 → decoded (escape x ++ s) ≡ x ∷ decoded s
 unfolding decoded escape
 decoded-escape x s h =

@@ -1,6 +1,6 @@
 -- Which bytes each set escapes: document 01, "Writing". Assumes nothing: these are definitions.
-use Prim.Native.Nat.{ℕ, _-_, _/_, _%_, _^_}
-use mathlib.Core.Bool.{Bool, false, cond, not, _||_}
+use Prim.Native.Nat.{ℕ, _/_, _%_, _^_}
+use mathlib.Core.Bool.{Bool, cond, not, _&&_, _||_}
 use mathlib.Core.List.{List, [], _∷_}
 use lib.Dec.{eqb, ltb, leb}
 use lib.ListN.{length}
@@ -31,7 +31,7 @@ escapes Attribute x = attribute x
 
 -- the bit of a byte in two words, the first from 0 on and the second from 64 on
 abbrev pub bitOf : ℕ → ℕ → ℕ → Bool
-bitOf low high b = cond (ltb b 64) (eqb (low / 2 ^ b % 2) 1) (cond (ltb b 128) (eqb (high / 2 ^ (b - 64) % 2) 1) false)
+bitOf low high b = eqb (cond (ltb b 64) low high / 2 ^ (b % 64) % 2) 1 && ltb b 128
 
 -- why a text is not percent-encoded, in order: 24, over 1,048,576 bytes
 abbrev pub encode-reasons : List ℕ → List Reason

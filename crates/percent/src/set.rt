@@ -1,7 +1,8 @@
 // The three sets of bytes that are escaped. Each holds the next: column 1 escapes what tags and values do, and these what columns 2
 // and 3 do. So one number a byte says it all: the smallest set that escapes it.
 ghost use mathlib.Core.Path.{_≡_};
-ghost use mathlib.Core.Bool.{not};
+ghost use mathlib.Core.Bool.{cond, not};
+ghost use lib.Dec.{ltb};
 ghost use Rattle.percent.specs.Sets.{bitOf, escapes};
 
 pub enum Set {
@@ -286,16 +287,18 @@ const COLUMN_LOW: u64 = 18446743931975630848;
 
 const COLUMN_HIGH: u64 = 9223372036854775807;
 
+fn word_of(low: u64, high: u64, b: u8) -> u64
+    ensures { λ r. ⌜ r ≡ cond (ltb b 64) low high ⌝ }
+{
+    if b < 64 { low } else { high }
+}
+
+// The bit of a byte. Without a branch: which half a byte is in cannot be foretold.
 fn bit(low: u64, high: u64, b: u8) -> bool
     ensures { λ r. ⌜ r ≡ bitOf low high b ⌝ }
 {
-    if b < 64 {
-        return (low >> (b as u32)) % 2 == 1;
-    }
-    if b < 128 {
-        return (high >> ((b - 64) as u32)) % 2 == 1;
-    }
-    false
+    let word = word_of(low, high, b);
+    ((word >> ((b % 64) as u32)) % 2 == 1) & (b < 128)
 }
 
 // Whether a set lets a byte stand. The table is laid out anew wherever it is asked; these are most bytes of a text, and two words tell them.

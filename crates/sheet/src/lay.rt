@@ -21,10 +21,14 @@ pub fn lay_section(text: &[u8], out: &mut [u8], at: usize) -> usize
     buffer::lay(text, out, from)
 }
 
-// Lays the decoded text after its count.
+// Lays the decoded text after its count. A text that decoding does not shorten is its own: it is copied.
 pub fn lay_decoded_section(text: &[u8], out: &mut [u8], at: usize) -> usize
     ensures { λ r. ⌜ Lays (section-of (decoded (now (text .entry)))) (now (out .entry)) at (now (out .exit)) r ⌝ }
 {
-    let from = lay_count(percent::decoded_len(text), out, at);
+    let n = percent::decoded_len(text);
+    let from = lay_count(n, out, at);
+    if n == text.len() {
+        return buffer::lay(text, out, from);
+    }
     percent::lay_decoded(text, out, from)
 }
