@@ -31,7 +31,7 @@ escapes Attribute x = attribute x
 
 -- the bit of a byte in two words, the first from 0 on and the second from 64 on
 abbrev pub bitOf : ℕ → ℕ → ℕ → Bool
-bitOf low high b = eqb (cond (ltb b 64) low high / 2 ^ (b % 64) % 2) 1 && ltb b 128
+bitOf low high b = ltb b 128 && eqb (cond (ltb b 64) low high / 2 ^ (b % 64) % 2) 1
 
 -- why a text is not percent-encoded, in order: 24, over 1,048,576 bytes
 abbrev pub encode-reasons : List ℕ → List Reason

@@ -293,12 +293,15 @@ fn word_of(low: u64, high: u64, b: u8) -> u64
     if b < 64 { low } else { high }
 }
 
-// The bit of a byte. Without a branch: which half a byte is in cannot be foretold.
+// The bit of a byte. Which half it is in cannot be foretold, so there is no branch on that.
 fn bit(low: u64, high: u64, b: u8) -> bool
     ensures { λ r. ⌜ r ≡ bitOf low high b ⌝ }
 {
+    if 128 <= b {
+        return false;
+    }
     let word = word_of(low, high, b);
-    ((word >> ((b % 64) as u32)) % 2 == 1) & (b < 128)
+    (word >> ((b % 64) as u32)) % 2 == 1
 }
 
 // Whether a set lets a byte stand. The table is laid out anew wherever it is asked; these are most bytes of a text, and two words tell them.
