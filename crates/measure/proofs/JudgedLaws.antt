@@ -4,9 +4,10 @@ use Prim.Native.Nat.{ℕ, zero, suc, _≤_}
 use native.Mathlib.Omega.{arith}
 use mathlib.Core.Path.{_≡_, refl}
 use mathlib.Core.Logic.{_≢_}
-use mathlib.Core.Bool.{not, false, true≢false}
+use mathlib.Core.Bool.{not, false, _||_, true≢false}
 use mathlib.Core.Option.{Option, none, some}
 use mathlib.Core.List.{List}
+use lib.Dec.{eqb, ltb}
 use lib.ListN.{length}
 use borrow.Author.Tests.{ltb-false}
 use Rattle.buffer.specs.Answer.{first}
@@ -14,7 +15,8 @@ use Rattle.buffer.proofs.AnswerLaws.{none-holds}
 use Rattle.sheet.specs.Sheet.{Sheet, sheet-read, isSome}
 use Rattle.measure.specs.declared.judging.Judged.{Judged}
 use Rattle.measure.specs.declared.judging.Judged.the-variants.{Is, Refused}
-use Rattle.measure.specs.Record.{record-reasons, judged-by}
+use Rattle.measure.specs.Judge.{found-reasons}
+use Rattle.measure.specs.Record.{badScore, isCDS, record-reasons, judged-by}
 
 got : (m : Option Sheet) → not (isSome m) ≡ false → (s : Sheet) × (m ≡ some s)
 got none e = absurd (true≢false e)
@@ -28,6 +30,12 @@ taken sheet start end strand phase e =
     let short = none-holds _ _ _ e in
     let form = none-holds _ _ _ (short .1) in
     (ltb-false _ _ (short .0), got (sheet-read sheet) (form .0))
+
+-- of a sheet that is not too long the reasons are those that are found
+pub found : (sheet : List ℕ) (start end strand phase : ℕ) (s : Sheet) → ltb 1048576 (length sheet) ≡ false → sheet-read sheet ≡ some s
+    → first (found-reasons (eqb start 0 || eqb end 0) (badScore s) strand phase (isCDS s)) ≡ first (record-reasons sheet start end strand phase)
+unfolding record-reasons
+found sheet start end strand phase s h e = rw (h, e)
 
 -- ── the verdict, made and read ────────────────────────────────────────────────────────────────
 

@@ -4,16 +4,18 @@ use native.Mathlib.Omega.{arith}
 use mathlib.Core.Path.{_≡_}
 use mathlib.Core.Option.{some}
 use mathlib.Core.List.{List, _∷_}
+use lib.Dec.{eqb}
 use lib.ListN.{length, drop, length-append}
 use Rattle.numbers.specs.Decimal.{decimal}
 use Rattle.percent.specs.declared.set.Set.the-variants.{Name, Column, Attribute}
 use Rattle.percent.specs.Percent.{encoded}
 use Rattle.percent.specs.Sets.{escapes}
+use Rattle.attributes.specs.Attributes as column9
 use Rattle.attributes.specs.Written.{column}
 use Rattle.sheet.specs.Reader.{counted}
-use Rattle.sheet.specs.Sheet.{Sheet, section, read-attribute, sheet-read}
+use Rattle.sheet.specs.Sheet.{Sheet, section, read-attribute, sheet-read, isSome}
 use Rattle.sheet.specs.Past.{Passes}
-use Rattle.sheet.proofs.PastLaws.{past-sheet, past-whole}
+use Rattle.sheet.proofs.PastLaws.{past-sheet, past-whole, past-ended}
 use Rattle.measure.specs.declared.Spot.{Spot}
 use Rattle.measure.specs.Led.{Measures}
 use Rattle.measure.specs.Record.{scoreOf, columns, line-of, record-line}
@@ -41,3 +43,10 @@ module _ (start end strand phase : ℕ) {s : List ℕ} {b₁ b₂ b₃ b₄ b₅
       (λ n o t c l x y z u v. omega (arith, x .to, y .to, z .to, length-line start end strand phase (record { name = n; source = o; type = t; score = c; attributes = l })))
       name source type score attributes)
       sheet e)
+
+-- the sheet has the form where it is passed to its end
+pub line-form : {s : List ℕ} {b₁ b₂ b₃ b₄ b₅ : ℕ} {N O T C : List ℕ → Type 0} {L : List column9.Attribute → Type 0} → Passes N s b₁ (section s)
+    → Passes O s b₂ (section (drop b₁ s)) → Passes T s b₃ (section (drop b₂ s)) → Passes C s b₄ (section (drop b₃ s))
+    → Passes L s b₅ (counted read-attribute (drop b₄ s)) → eqb b₅ (length s) ≡ isSome (sheet-read s)
+line-form {s} {b₁} {b₂} {b₃} {b₄} {b₅} name source type score attributes =
+    past-ended {P = λ x. Unit {0}} s b₅ (past-sheet (λ n o t c l x y z u v. tt) name source type score attributes)

@@ -2,6 +2,9 @@
 ghost use mathlib.Core.Path.{_≡_};
 ghost use Rattle.measure.specs.Record.{judged};
 
+// The longest sheet that is written.
+const LONGEST: usize = 1048576;
+
 pub enum Judged {
     // The length of the line.
     Is(usize),
@@ -15,9 +18,16 @@ pub enum Judged {
 pub fn judge(sheet: &[u8], start: u64, end: u64, strand: u32, phase: u32) -> Judged
     ensures { λ r. ⌜ r ≡ judged (now (sheet .entry)) start end strand phase ⌝ }
 {
-    let refused = super::reasons::refusal(sheet, start, end, strand, phase);
+    if LONGEST < sheet.len() {
+        return Judged::Refused(24);
+    }
+    let line = super::length::line_len(sheet, start, end);
+    if line.from != sheet.len() {
+        return Judged::Refused(23);
+    }
+    let refused = super::reasons::field_refusal(sheet, start, end, strand, phase);
     if refused != 0 {
         return Judged::Refused(refused);
     }
-    Judged::Is(super::length::line_len(sheet, start, end))
+    Judged::Is(line.to)
 }

@@ -7,13 +7,14 @@ ghost use mathlib.Core.Path.{_≡_};
 ghost use mathlib.Core.List.{_∷_, map};
 ghost use mathlib.Core.Option.{some};
 ghost use Prim.Native.Nat.{ℕ, _+_, _*_, _≤_};
+ghost use lib.Dec.{eqb};
 ghost use lib.ListN.{length, drop};
 ghost use Rattle.percent.specs.declared.set.Set.the-variants.{Attribute};
 ghost use Rattle.percent.specs.Percent.{encoded};
 ghost use Rattle.percent.specs.Sets.{escapes};
 ghost use Rattle.attributes.specs.Written.{written, column};
 ghost use Rattle.sheet.specs.Reader.{times, counted};
-ghost use Rattle.sheet.specs.Sheet.{Sheet, section, read-attribute, sheet-read};
+ghost use Rattle.sheet.specs.Sheet.{Sheet, section, read-attribute, sheet-read, isSome};
 ghost use Rattle.sheet.specs.Past.{Passes};
 ghost use Rattle.measure.specs.Led.{led, Measures};
 ghost use Rattle.measure.specs.Record.{scoreOf, record-line};
@@ -150,16 +151,17 @@ fn score_len(sheet: &[u8], from: usize, n: usize) -> Spot
     }
 }
 
-// The line: two columns of digits and two of one byte, each with its tab, and what the sheet holds.
-pub(crate) fn line_len(sheet: &[u8], start: u64, end: u64) -> usize
+// The line: two columns of digits and two of one byte, each with its tab, and what the sheet holds. The sheet has the form where it was
+// passed to its end.
+pub(crate) fn line_len(sheet: &[u8], start: u64, end: u64) -> Spot
     requires { ⌜ length (now sheet) ≤ 1048576 ⌝ }
-    ensures { λ r. ⌜ ((s : Sheet) (strand phase : ℕ) → sheet-read (now (sheet .entry)) ≡ some s → r ≡ length (record-line (now (sheet .entry)) start end strand phase)) ⌝ }
+    ensures form { λ r. ⌜ eqb (r .from) (length (now (sheet .entry))) ≡ isSome (sheet-read (now (sheet .entry))) ⌝ }
+    ensures long { λ r. ⌜ ((s : Sheet) (strand phase : ℕ) → sheet-read (now (sheet .entry)) ≡ some s → r .to ≡ length (record-line (now (sheet .entry)) start end strand phase)) ⌝ }
 {
     let digits = numbers::decimal_len(start) + numbers::decimal_len(end);
     let name = text_len(Set::Name, sheet, 0, 6 + digits);
     let source = text_len(Set::Column, sheet, name.from, name.to + 1);
     let kind = text_len(Set::Column, sheet, source.from, source.to + 1);
     let score = score_len(sheet, kind.from, kind.to);
-    let column = column_len(sheet, score.from, score.to);
-    column.to
+    column_len(sheet, score.from, score.to)
 }

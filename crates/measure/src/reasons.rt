@@ -11,10 +11,7 @@ ghost use Rattle.buffer.specs.Answer.{first};
 ghost use Rattle.sheet.specs.Sheet.{Sheet, section, sheet-read};
 ghost use Rattle.sheet.specs.Past.{Passes};
 ghost use Rattle.measure.specs.Judge.{found-reasons};
-ghost use Rattle.measure.specs.Record.{bad, badScore, isCDS, record-reasons};
-
-// The longest sheet that is written.
-const LONGEST: usize = 1048576;
+ghost use Rattle.measure.specs.Record.{bad, badScore, isCDS};
 
 // Where the section at a cursor stands; past the sheet's end where there is none.
 fn section(sheet: &[u8], at: usize) -> Place
@@ -48,7 +45,7 @@ fn first_found(zero: bool, bad: bool, strand: u32, phase: u32, coding: bool) -> 
 }
 
 // The first reason that a sheet and its numbers give, or 0.
-fn field_refusal(sheet: &[u8], start: u64, end: u64, strand: u32, phase: u32) -> u32
+pub(crate) fn field_refusal(sheet: &[u8], start: u64, end: u64, strand: u32, phase: u32) -> u32
     ensures { λ r. ⌜ ((s : Sheet) → sheet-read (now (sheet .entry)) ≡ some s → r ≡ first (found-reasons (eqb start 0 || eqb end 0) (badScore s) strand phase (isCDS s))) ⌝ }
 {
     let name = section(sheet, 0);
@@ -58,17 +55,4 @@ fn field_refusal(sheet: &[u8], start: u64, end: u64, strand: u32, phase: u32) ->
     let coding = scan::is_same(scan::text(sheet, kind), b"CDS");
     let bad = is_bad(scan::text(sheet, score));
     first_found((start == 0) | (end == 0), bad, strand, phase, coding)
-}
-
-// In order: 24, 23, 2, 17, 3, 4, 18; or 0.
-pub(crate) fn refusal(sheet: &[u8], start: u64, end: u64, strand: u32, phase: u32) -> u32
-    ensures { λ r. ⌜ r ≡ first (record-reasons (now (sheet .entry)) start end strand phase) ⌝ }
-{
-    if LONGEST < sheet.len() {
-        return 24;
-    }
-    if !sheet::is_sheet(sheet) {
-        return 23;
-    }
-    field_refusal(sheet, start, end, strand, phase)
 }

@@ -1,27 +1,51 @@
 -- `judge`: the first reason that holds, or the length. Assumes nothing.
-use Prim.Native.Nat.{_≤_}
-use mathlib.Core.Path.{_≡_, sym, _∙_}
-use mathlib.Core.Option.{some}
-use lib.ListN.{length}
-use Rattle.sheet.specs.Sheet.{Sheet, sheet-read}
-use Rattle.measure.proofs.JudgedLaws.{taken, judged-refused, judged-need}
+use mathlib.Core.Path.{_≡_, refl, sym, _∙_}
+use mathlib.Core.Bool.{true, true≢false}
+use mathlib.Core.Option.{Option, none, some}
+use borrow.Author.Tests.{lt-ltb, le-ltb, eq-eqb, ne-eqb}
+use Rattle.buffer.specs.Answer.{first}
+use Rattle.sheet.specs.Sheet.{Sheet, sheet-read, isSome}
+use Rattle.measure.specs.Record.{record-reasons, judged-by}
+use Rattle.measure.proofs.JudgedLaws.{found, judged-refused, judged-need}
 use Rattle.measure.proofs.judging.judge.Statement.{statement}
 use Rattle.measure.proofs.judging.judge.Tie as tie
 
--- where nothing was refused the sheet is short and has the form
-known : (c : tie.Else1)
-    → let a = c .before .before .before .args in (length (a .sheet .now) ≤ 1048576) × ((s : Sheet) × (sheet-read (a .sheet .now) ≡ some s))
-known c = taken _ _ _ _ _ (sym (c .before .refusal .ensures) ∙ c .if1 .left)
+got : (m : Option Sheet) → isSome m ≡ true → (s : Sheet) × (m ≡ some s)
+got none e = absurd (true≢false (sym e))
+got (some s) e = (s, refl)
+
+-- a sheet that is not too long and was passed to its end
+form : (c : tie.Else2) → let s = c .before .before .before .before .before .args .sheet .now in (sheet : Sheet) × (sheet-read s ≡ some sheet)
+form c = got _ (sym (c .before .before .line-len .ensures .0) ∙ eq-eqb _ _ (c .if2 .left))
+
+-- what was found are the record's reasons
+reasons : (c : tie.After-field-refusal)
+    → let a = c .before .before .before .before .before .before .args in
+    c .field-refusal .result ≡ first (record-reasons (a .sheet .now) (a .start) (a .end) (a .strand) (a .phase))
+reasons c =
+    let g = form (c .before) in
+    c .field-refusal .ensures (g .0) (g .1) ∙ found _ _ _ _ _ (g .0) (le-ltb _ _ (c .before .before .before .before .if1 .left)) (g .1)
 
 returns : tie.Need-returns
-returns c = rw (← c .before .refusal .ensures) (judged-refused _ _ (c .if1 .taken))
+unfolding record-reasons judged-by
+returns c = rw (lt-ltb _ _ (c .if1 .taken))
 
 returns-2 : tie.Need-returns-2
+unfolding record-reasons judged-by
 returns-2 c =
-    let k = known (c .before) .1 in
     let n = c .before .before in
-    let a = n .before .before .args in
-    rw (c .line-len .ensures (k .0) (a .strand) (a .phase) (k .1)) (judged-need _ _ (sym (n .refusal .ensures) ∙ c .before .if1 .left))
+    rw (le-ltb _ _ (n .before .if1 .left), ← n .line-len .ensures .0, ne-eqb _ _ (c .if2 .taken))
+
+returns-3 : tie.Need-returns-3
+returns-3 c = rw (← reasons (c .before)) (judged-refused _ _ (c .if3 .taken))
+
+returns-4 : tie.Need-returns-4
+returns-4 c =
+    let f = c .before in
+    let g = form (f .before) in
+    let n = f .before .before .before in
+    let a = n .before .before .before .args in
+    rw (n .line-len .ensures .1 (g .0) (a .strand) (a .phase) (g .1)) (judged-need _ _ (sym (reasons f) ∙ c .if3 .left))
 
 pub judge-spec : {M : Type 1} → statement M
-judge-spec = tie.close (tie.spec (λ c κs. tt) returns (λ c κs. known c .0) returns-2)
+judge-spec = tie.close (tie.spec returns (λ c κs. c .if1 .left) returns-2 (λ c κs. tt) returns-3 returns-4)

@@ -1,19 +1,22 @@
 -- `line_len`: the lengths of the pieces of the line, added up. Assumes nothing.
 use native.Mathlib.Omega.{arith}
-use Rattle.measure.proofs.LineLaws.{line-length}
+use Rattle.measure.proofs.LineLaws.{line-length, line-form}
 use Rattle.measure.proofs.length.line_len.Statement.{statement}
 use Rattle.measure.proofs.length.line_len.Tie as tie
 
 returns : tie.Need-returns
-returns c s strand phase e =
+returns c =
     let score = c .before in
     let type = score .before in
     let source = type .before .before in
     let name = source .before .before in
     let end = name .before in
-    let start = end .before in
-    line-length _ _ strand phase s e (omega (arith, start .decimal-len .ensures .0, end .decimal-len2 .ensures .0)) (name .text-len .ensures .0)
-    (source .text-len2 .ensures .0) (type .text-len3 .ensures .0) (score .score-len .ensures .0) (c .column-len .ensures)
+    let start = end .before in (
+      line-form (name .text-len .ensures .0) (source .text-len2 .ensures .0) (type .text-len3 .ensures .0) (score .score-len .ensures .0) (c .column-len .ensures),
+      λ s strand phase e.
+          line-length _ _ strand phase s e (omega (arith, start .decimal-len .ensures .0, end .decimal-len2 .ensures .0)) (name .text-len .ensures .0)
+          (source .text-len2 .ensures .0) (type .text-len3 .ensures .0) (score .score-len .ensures .0) (c .column-len .ensures),
+    )
 
 pub line-len-spec : {M : Type 1} → statement M
 line-len-spec =
