@@ -20,7 +20,7 @@ use Rattle.columns.specs.declared.bounds.Bounds.{Bounds}
 use Rattle.columns.specs.declared.bounds.Indexed.the-variants.{At, Refused}
 use Rattle.columns.specs.declared.column.Column.{Column}
 use Rattle.columns.specs.declared.column.Column.the-variants as column
-use Rattle.columns.specs.Columns.{end, ends, isRecord, indexed, listed, same-after, matches, isOwn, between-tabs, columnPlace, columnText}
+use Rattle.columns.specs.Columns.{end, ends, isRecord, indexed, listed, same-after, matches, isOwn, between-tabs, columnPlace, columnText, rowOf, tabsBefore}
 
 -- ── the eight cuts ────────────────────────────────────────────────────────────────────────────
 
@@ -117,11 +117,6 @@ place-is n s h = ap₂ (λ (a e : ℕ). record { start = a; end = e }) (h .0) (h
 
 -- ── a row that is written ─────────────────────────────────────────────────────────────────────
 
--- columns, each with a tab behind it, and the rest
-abbrev pub rowOf : List (List ℕ) → List ℕ → List ℕ
-rowOf [] rest = rest
-rowOf (c ∷ more) rest = c ++ 9 ∷ rowOf more rest
-
 -- a column that lacks the tab ends at it
 pub end-column : (n : ℕ) (c s : List ℕ) → Lacks 9 c → end (suc n) (c ++ 9 ∷ s) ≡ suc (length c) + end n s
 unfolding end
@@ -159,18 +154,6 @@ row-rest (c ∷ row) rest h =
     let r = row-rest row rest (h .1) in
     let s = rowOf row rest in
     (omega (arith, end-column (length row) c s (h .0), length-append c (9 ∷ s), r .0), behind c s (h .0) (length row) ∙ r .1)
-
--- how many tabs stand before a column
-abbrev pub tabsBefore : Column → ℕ
-tabsBefore column.ReferenceSequenceName = 0
-tabsBefore column.Source = 1
-tabsBefore column.Ty = 2
-tabsBefore column.Start = 3
-tabsBefore column.End = 4
-tabsBefore column.Score = 5
-tabsBefore column.Strand = 6
-tabsBefore column.Phase = 7
-tabsBefore column.Attributes = 8
 
 module _ (row : List (List ℕ)) (rest : List ℕ) (eight : length row ≡ 8) (lacks : Every (Lacks 9) row) where
   -- eight columns that lack the tab and any rest are a record

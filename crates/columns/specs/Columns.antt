@@ -2,7 +2,7 @@
 -- rest, further tabs included. Assumes nothing: these are definitions.
 use Prim.Native.Nat.{ℕ, zero, suc, _-_}
 use mathlib.Core.Bool.{Bool, true, false, cond, _&&_}
-use mathlib.Core.List.{List, [], _∷_}
+use mathlib.Core.List.{List, [], _∷_, _++_}
 use lib.Dec.{eqb, leb}
 use lib.ListN.{length}
 use Rattle.scan.specs.declared.place.Place.{Place}
@@ -82,3 +82,22 @@ columnPlace column.Attributes s = record { start = end 8 s; end = length s }
 
 abbrev pub columnText : Column → List ℕ → List ℕ
 columnText c s = textAt (columnPlace c s) s
+
+-- ── a row that is written ──
+
+-- columns, each with a tab behind it, and the rest
+abbrev pub rowOf : List (List ℕ) → List ℕ → List ℕ
+rowOf [] rest = rest
+rowOf (c ∷ more) rest = c ++ 9 ∷ rowOf more rest
+
+-- how many tabs stand before a column
+abbrev pub tabsBefore : Column → ℕ
+tabsBefore column.ReferenceSequenceName = 0
+tabsBefore column.Source = 1
+tabsBefore column.Ty = 2
+tabsBefore column.Start = 3
+tabsBefore column.End = 4
+tabsBefore column.Score = 5
+tabsBefore column.Strand = 6
+tabsBefore column.Phase = 7
+tabsBefore column.Attributes = 8

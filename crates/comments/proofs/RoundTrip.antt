@@ -12,7 +12,8 @@ use Rattle.buffer.specs.Answer.{first}
 use Rattle.lines.specs.declared.kind.Kind.the-variants.{Comment}
 use Rattle.lines.specs.Kind.{kind}
 use Rattle.lines.specs.Lines.{OneLine}
-use Rattle.lines.proofs.KindLaws.{kind-comment, ReadsComment, comment-reads}
+use Rattle.lines.specs.Reading.{ReadsComment}
+use Rattle.lines.proofs.KindLaws.{kind-comment, comment-reads}
 use Rattle.texts.proofs.TextLaws.{no-return, no-feed}
 use Rattle.comments.specs.Comment.{hashed, comment-reasons, comment-line}
 use Rattle.comments.proofs.ReasonLaws.{plain}

@@ -19,12 +19,11 @@ use Rattle.percent.specs.declared.set.Set.the-variants as set
 use Rattle.percent.specs.Percent.{decoded, encoded}
 use Rattle.percent.specs.Sets.{escapes, encode-reasons}
 use Rattle.lines.specs.Step.{steps}
-use Rattle.lines.proofs.KindLaws.{ReadsComment, ReadsDirective}
+use Rattle.lines.specs.Reading.{ReadsComment, ReadsDirective}
 use Rattle.columns.specs.declared.bounds.Bounds.{Bounds}
 use Rattle.columns.specs.declared.column.Column.{Column}
-use Rattle.columns.specs.Columns.{isRecord, columnText}
+use Rattle.columns.specs.Columns.{isRecord, columnText, rowOf, tabsBefore}
 use Rattle.columns.specs.Fields.{text-reasons}
-use Rattle.columns.proofs.ColumnsLaws.{rowOf, tabsBefore}
 use Rattle.attributes.specs.Attributes.{Attribute, walk-from, walk, attributes}
 use Rattle.attributes.specs.Pieces.{pieces}
 use Rattle.attributes.specs.Step as column9
@@ -33,7 +32,7 @@ use Rattle.attributes.proofs.ValueLaws.{start}
 use Rattle.marks.specs.declared.directive.Value.{Value}
 use Rattle.comments.specs.Comment.{comment-reasons, comment-line}
 use Rattle.marks.specs.Directive.{directive-reasons, directive-line}
-use Rattle.marks.proofs.RoundTrip.{value-text, Sized, Back}
+use Rattle.marks.specs.Reading.{value-text, Sized, Back}
 use Rattle.sheet.specs.Sheet.{sheet-of}
 use Rattle.unfold.specs.declared.judging.Numbers.{Numbers}
 use Rattle.unfold.specs.declared.lay.Unfolded.{Unfolded}

@@ -12,16 +12,11 @@ use lib.Seq.{take-at, take-all, drop-append-add}
 use borrow.Author.Tests.{eq-eqb, ne-eqb}
 use Rattle.lists.specs.Bytes.{Every}
 use Rattle.scan.specs.Find.{index, seek}
-use Rattle.scan.specs.Part.{textAt}
 use Rattle.scan.specs.Word.{isSpace, space}
-use Rattle.scan.specs.declared.place.Place.{Place}
 use Rattle.scan.proofs.FindLaws.{index-append}
 use Rattle.lines.specs.declared.kind.Kind.the-variants.{Directive, Comment, Record}
-use Rattle.lines.specs.declared.comment.CommentText.the-variants as comment
-use Rattle.lines.specs.declared.directive.DirectiveText.the-variants as directive
-use Rattle.lines.specs.declared.directive.ValueText.{ValueText}
-use Rattle.lines.specs.declared.directive.ValueText.the-variants as value
 use Rattle.lines.specs.Kind.{kind, commentText, directiveText, valueOf}
+use Rattle.lines.specs.Reading.{ReadsComment, valueRead, ReadsDirective}
 
 -- ── the kind ──────────────────────────────────────────────────────────────────────────────────
 
@@ -45,12 +40,6 @@ kind-record s h = rw (kind-by s, ne-eqb (getD s 0 0) 35 h)
 
 -- ── a comment ─────────────────────────────────────────────────────────────────────────────────
 
--- the line is a comment of this text
-pub record ReadsComment (line text : List ℕ) : Type 0 where
-  pub place : Place
-  pub answer : commentText line ≡ comment.At place
-  pub reads : textAt place line ≡ text
-
 pub comment-reads : (s : List ℕ) → getD s 0 0 ≢ 35 → ReadsComment (35 ∷ s) s
 unfolding commentText
 comment-reads s h =
@@ -61,19 +50,6 @@ comment-reads s h =
     }
 
 -- ── a directive ───────────────────────────────────────────────────────────────────────────────
-
--- the value's text, if there is a value
-abbrev pub valueRead : List ℕ → ValueText → Option (List ℕ)
-valueRead line value.Absent = none
-valueRead line (value.At p) = some (textAt p line)
-
--- the line is a directive of this key and, maybe, this value
-pub record ReadsDirective (line key : List ℕ) (text : Option (List ℕ)) : Type 0 where
-  pub key-place : Place
-  pub value : ValueText
-  pub answer : directiveText line ≡ directive.Is key-place value
-  pub reads-key : textAt key-place line ≡ key
-  pub reads-value : valueRead line value ≡ text
 
 module _ (key : List ℕ) (inked : Every (λ x. isSpace x ≡ false) key) where
   -- a key without white space runs to white space, or to the end

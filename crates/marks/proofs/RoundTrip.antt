@@ -5,31 +5,26 @@ use native.Mathlib.Omega.{arith}
 use mathlib.Core.Path.{_≡_, refl, sym, ap, _∙_}
 use mathlib.Core.Logic.{_≢_}
 use mathlib.Core.Bool.{true, false, not, _&&_, true≢false}
-use mathlib.Core.Option.{Option, none, some}
+use mathlib.Core.Option.{some}
 use mathlib.Core.List.{List, [], _∷_, _++_, append-nil}
 use lib.Dec.{eqb}
-use lib.ListN.{length}
 use borrow.Author.Tests.{eqb-false}
 use Rattle.lists.specs.Bytes.{Every, Lacks}
 use Rattle.lists.proofs.EveryLaws.{every-append}
 use Rattle.lists.proofs.BoolLaws.{or-left, or-right}
-use Rattle.scan.specs.Part.{textAt}
 use Rattle.scan.specs.Word.{isSpace}
 use Rattle.numbers.specs.Decimal.{decimal}
-use Rattle.numbers.specs.Number.{isDigit, most32, most64}
+use Rattle.numbers.specs.Number.{isDigit, most32}
 use Rattle.numbers.proofs.DecimalLaws.{decimal-lacks}
 use Rattle.buffer.specs.Answer.{first}
 use Rattle.lines.specs.declared.kind.Kind.the-variants.{Directive}
 use Rattle.lines.specs.Kind.{kind}
 use Rattle.lines.specs.Lines.{OneLine}
-use Rattle.lines.proofs.KindLaws.{kind-directive, ReadsDirective, directive-reads, directive-reads-alone}
+use Rattle.lines.specs.Reading.{ReadsDirective}
+use Rattle.lines.proofs.KindLaws.{kind-directive, directive-reads, directive-reads-alone}
 use Rattle.directives.specs.declared.gff_version.Part.{Part}
 use Rattle.directives.specs.declared.gff_version.Part.the-variants as part
-use Rattle.directives.specs.declared.sequence_region.RegionRead.the-variants as region
-use Rattle.directives.specs.declared.genome_build.BuildRead.the-variants as build
 use Rattle.directives.specs.GffVersion.{version, versionOf}
-use Rattle.directives.specs.SequenceRegion.{regionOf}
-use Rattle.directives.specs.GenomeBuild.{buildOf}
 use Rattle.directives.proofs.VersionLaws.{version-major, version-minor, version-patch}
 use Rattle.directives.proofs.RegionLaws.{region-reads}
 use Rattle.directives.proofs.BuildLaws.{build-reads}
@@ -41,17 +36,10 @@ use Rattle.marks.specs.Version.{absent, dotted, version-reasons, version
 use Rattle.marks.specs.Region.{region-reasons, region-text}
 use Rattle.marks.specs.GenomeBuild.{build-reasons, build-text}
 use Rattle.marks.specs.Directive.{directive-reasons, tail, directive-line}
+use Rattle.marks.specs.Reading.{value-text, Within, Sized, Back}
 use Rattle.marks.proofs.ReasonLaws.{clear, clear-key}
 
 -- ── a directive ───────────────────────────────────────────────────────────────────────────────
-
--- the value's text, if there is a value
-unfoldable pub value-text : Value → List ℕ → List ℕ → Option (List ℕ)
-value-text None one two = none
-value-text Text one two = some one
-value-text (Version v) one two = some (version-text v)
-value-text (Region start end) one two = some (region-text one start end)
-value-text Build one two = some (build-text one two)
 
 tail-back : (key : List ℕ) (value : Value) (one two : List ℕ) → Every (λ x. isSpace x ≡ false) key
     → ReadsDirective (directive-line key value one two) key (value-text value one two)
@@ -63,31 +51,6 @@ tail-back key (Region start end) one two h = directive-reads key h (region-text 
 tail-back key Build one two h = directive-reads key h (build-text one two)
 
 -- ── a typed value ─────────────────────────────────────────────────────────────────────────────
-
--- the numbers fit their types: 32 bits in a version, 64 in a region
-abbrev pub Within : Part → Type 0
-Within (part.Is n) = n ≤ most32
-Within part.Absent = Unit {0}
-
-unfoldable pub Sized : Value → Type 0
-Sized None = Unit {0}
-Sized Text = Unit {0}
-Sized (Version v) = (v .major ≤ most32) × Within (v .minor) × Within (v .patch)
-Sized (Region start end) = (start ≤ most64) × (end ≤ most64)
-Sized Build = Unit {0}
-
--- what the value's own reader makes of its text: the same numbers, and places where the same texts stand
-unfoldable pub Back : Value → List ℕ → List ℕ → Type 0
-Back None one two = Unit {0}
-Back Text one two = Unit {0}
-Back (Version v) one two = versionOf (version-text v) ≡ version (v .major) (v .minor) (v .patch)
-Back (Region start end) name two =
-    (regionOf (region-text name start end) ≡ region.Is (record { name = record { start = 0; end = length name }; start = start; end = end }))
-    × (textAt (record { start = 0; end = length name }) (region-text name start end) ≡ name)
-Back Build source name =
-    (buildOf (build-text source name) ≡ build.Is (record { source = record { start = 0; end = length source }; name = record { start = length source + 1; end = length source + 1 + length name } }))
-    × (textAt (record { start = 0; end = length source }) (build-text source name) ≡ source)
-    × (textAt (record { start = length source + 1; end = length source + 1 + length name }) (build-text source name) ≡ name)
 
 version-back : (major : ℕ) (minor patch : Part) → major ≤ most32 → Within minor → Within patch → (absent minor && not (absent patch)) ≡ false
     → versionOf (decimal major ++ (dotted minor ++ dotted patch)) ≡ version major minor patch

@@ -13,7 +13,7 @@ use Rattle.percent.specs.Percent.{encoded}
 use Rattle.percent.specs.Sets.{escapes}
 use Rattle.attributes.specs.Written.{column}
 use Rattle.tokens.specs.Score.{isScore}
-use Rattle.columns.proofs.ColumnsLaws.{rowOf}
+use Rattle.columns.specs.Columns.{rowOf}
 use Rattle.sheet.specs.Sheet.{Sheet, sheet-read, isSome}
 use Rattle.measure.specs.declared.judging.Judged.{Judged}
 use Rattle.measure.specs.declared.judging.Judged.the-variants.{Is, Refused}

@@ -26,7 +26,7 @@ use Rattle.attributes.specs.Pieces.{prefixed, joined}
 use Rattle.attributes.specs.Written.{Writable, written, column}
 use Rattle.attributes.proofs.WrittenLaws.{column-lacks}
 use Rattle.tokens.proofs.ScoreLaws.{isScoreByte}
-use Rattle.columns.proofs.ColumnsLaws.{rowOf}
+use Rattle.columns.specs.Columns.{rowOf}
 use Rattle.sheet.specs.Sheet.{Sheet, section-of, attribute-of}
 use Rattle.sheet.proofs.SheetLaws.{Text, GoodAttribute}
 use Rattle.sheet.proofs.LengthLaws.{length-section, length-attribute, length-sheet}

@@ -26,8 +26,8 @@ use Rattle.tokens.specs.declared.phase.PhaseRead.the-variants as phaseRead
 use Rattle.tokens.specs.Tokens.{positionText, strandText, phaseText}
 use Rattle.columns.specs.declared.column.Column.{Column}
 use Rattle.columns.specs.declared.column.Column.the-variants as column
-use Rattle.columns.specs.Columns.{isRecord, columnText}
-use Rattle.columns.proofs.ColumnsLaws.{tabsBefore, row-record, row-text}
+use Rattle.columns.specs.Columns.{isRecord, columnText, tabsBefore}
+use Rattle.columns.proofs.ColumnsLaws.{row-record, row-text}
 use Rattle.sheet.specs.Sheet.{sheet-read, sheet-of}
 use Rattle.measure.specs.Record.{columns, record-reasons, record-line}
 use Rattle.unfold.specs.declared.lay.Unfolded.{Unfolded}
