@@ -1,4 +1,4 @@
--- Positions and the answers of writers as C has them, a case at a time. Assumes nothing: these are definitions.
+-- Bounds, positions and the answers of writers as C has them, a case at a time. Assumes nothing: these are definitions.
 use Prim.Native.Nat.{ℕ}
 use mathlib.Core.Path.{_≡_}
 use mathlib.Core.List.{List}
@@ -9,8 +9,23 @@ use Rattle.buffer.specs.declared.Written.the-variants as written
 use Rattle.buffer.specs.Answer.{Reason, first, answer, contents}
 use Rattle.tokens.specs.declared.position.PositionRead.{PositionRead}
 use Rattle.tokens.specs.declared.position.PositionRead.the-variants as position
+use Rattle.columns.specs.declared.bounds.Bounds.{Bounds}
+use Rattle.answers.specs.declared.Gff3Bounds.{Gff3Bounds}
 use Rattle.answers.specs.declared.Gff3Number.{Gff3Number}
 use Rattle.answers.specs.declared.Gff3Written.{Gff3Written}
+
+abbrev pub boundsIn : Gff3Bounds → Bounds
+boundsIn b =
+    record {
+      «reference_sequence_name_end» = b .«reference_sequence_name_end»;
+      «source_end» = b .«source_end»;
+      «type_end» = b .«type_end»;
+      «start_end» = b .«start_end»;
+      «end_end» = b .«end_end»;
+      «score_end» = b .«score_end»;
+      «strand_end» = b .«strand_end»;
+      «phase_end» = b .«phase_end»;
+    }
 
 abbrev pub positionOf : PositionRead → Gff3Number
 positionOf (position.Is n) = record { refused = 0; value = n }

@@ -1,11 +1,24 @@
-// What several of the C functions answer: a number or a refusal, and what a writer into a lent buffer answers; and the library's enums
-// turned into them.
+// What several of the C functions take and answer: bounds, a number or a refusal, and what a writer into a lent buffer answers; and these
+// turned into the library's own, or out of them.
 //
-// Proved: each answer is that of one definition for each enum, which gives document 01's number and values for each case. Assumes nothing.
+// Proved: each answer is that of one definition for each type, which gives document 01's number and values for each case. Assumes nothing.
 use buffer::Written;
+use columns::Bounds;
 use tokens::PositionRead;
 ghost use mathlib.Core.Path.{_≡_};
-ghost use Rattle.answers.specs.Answers.{positionOf, writtenOf};
+ghost use Rattle.answers.specs.Answers.{boundsIn, positionOf, writtenOf};
+
+#[repr(C)]
+pub struct Gff3Bounds {
+    pub reference_sequence_name_end: usize,
+    pub source_end: usize,
+    pub type_end: usize,
+    pub start_end: usize,
+    pub end_end: usize,
+    pub score_end: usize,
+    pub strand_end: usize,
+    pub phase_end: usize,
+}
 
 #[repr(C)]
 pub struct Gff3Number {
@@ -17,6 +30,22 @@ pub struct Gff3Number {
 pub struct Gff3Written {
     pub refused: u64,
     pub length: usize,
+}
+
+// The library's bounds of C's.
+pub fn bounds_in(bounds: Gff3Bounds) -> Bounds
+    ensures { λ r. ⌜ r ≡ boundsIn bounds ⌝ }
+{
+    Bounds {
+        reference_sequence_name_end: bounds.reference_sequence_name_end,
+        source_end: bounds.source_end,
+        type_end: bounds.type_end,
+        start_end: bounds.start_end,
+        end_end: bounds.end_end,
+        score_end: bounds.score_end,
+        strand_end: bounds.strand_end,
+        phase_end: bounds.phase_end,
+    }
 }
 
 pub fn position_of(read: PositionRead) -> Gff3Number

@@ -1,6 +1,3 @@
-pub mod LookupLaws
-pub mod PiecesLaws
-pub mod ValueLaws
 pub mod WalkLaws
 pub mod WrittenLaws
 mod Samples

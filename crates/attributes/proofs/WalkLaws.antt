@@ -13,7 +13,7 @@ use lib.ListN.{length, take, drop, length-drop, drop-of-length-le}
 use lib.Seq.{take-length}
 use borrow.Author.Tests.{ne-eqb, leb-true, leb-false, eqb-true, eqb-false}
 use Rattle.lists.specs.Bytes.{Lacks}
-use Rattle.scan.specs.Same.{isDot}
+use Rattle.words.specs.Same.{isDot}
 use Rattle.scan.specs.Find.{index, is, found}
 use Rattle.scan.specs.Part.{part, textAt}
 use Rattle.scan.proofs.FindLaws.{index-le, seek-at, seek-le, seek-ge, lacks-before, cut-at, lacks-all}

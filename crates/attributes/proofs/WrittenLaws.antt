@@ -9,13 +9,13 @@ use mathlib.Core.List.{List, [], _∷_, _++_, map, append-assoc}
 use mathlib.Core.Option.{some}
 use Rattle.lists.specs.Bytes.{Every, Bytes, Lacks}
 use Rattle.lists.proofs.EveryLaws.{every-append, every-map}
-use Rattle.scan.specs.Same.{isDot}
+use Rattle.words.specs.Same.{isDot}
 use Rattle.percent.specs.Percent.{isHex, decoded, encoded}
 use Rattle.percent.proofs.PercentLaws.{decoded-encoded, encoded-lacks}
-use Rattle.attributes.specs.Pieces.{prefixed, joined}
+use Rattle.values.specs.Pieces.{prefixed, joined}
 use Rattle.attributes.specs.Attributes.{Attribute, tag-after, value-after, walk-from, walk, values, attribute, attributes}
 use Rattle.attributes.specs.Written.{Writable, raw, written, column}
-use Rattle.attributes.proofs.PiecesLaws.{pieces-joined, every-joined}
+use Rattle.values.proofs.PiecesLaws.{pieces-joined, every-joined}
 use Rattle.attributes.proofs.WalkLaws.{walk-attribute}
 
 -- a text with `=` is no dot

@@ -7,9 +7,9 @@ use mathlib.Core.List.{List, [], _∷_, _++_, map}
 use mathlib.Core.Option.{Option, none, some}
 use lib.Dec.{eqb}
 use lib.ListN.{drop}
-use Rattle.scan.specs.Same.{isDot}
+use Rattle.words.specs.Same.{isDot}
 use Rattle.percent.specs.Percent.{decoded}
-use Rattle.attributes.specs.Pieces.{pieces}
+use Rattle.values.specs.Pieces.{pieces}
 
 -- what a walk meets: tags and values as they stand in the text, and then the end, or text left without `=`
 pub data Walk : Type 0 where

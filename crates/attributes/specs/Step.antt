@@ -1,23 +1,18 @@
--- A step of the walk over column 9 and one over a value, as functions of the text and the cursor alone; and steps in a row.
--- Assumes nothing: these are definitions.
-use Prim.Native.Nat.{ℕ, zero, suc, _+_, min}
-use mathlib.Core.Bool.{Bool, true, false, cond}
-use mathlib.Core.List.{List, [], _∷_}
+-- A step of the walk over column 9, as a function of the column and the cursor alone; and steps in a row. Assumes nothing: these are
+-- definitions.
+use Prim.Native.Nat.{ℕ, zero, suc, _+_}
+use mathlib.Core.Bool.{cond}
+use mathlib.Core.List.{List}
 use lib.Dec.{eqb, leb}
 use lib.ListN.{length}
-use Rattle.scan.specs.Same.{isDot}
+use Rattle.words.specs.Same.{isDot}
 use Rattle.scan.specs.declared.place.Place.{Place}
 use Rattle.scan.specs.Find.{found}
 use Rattle.scan.specs.Part.{textAt}
 use Rattle.attributes.specs.declared.field.Field.{Field}
 use Rattle.attributes.specs.declared.field.Step.{Step}
 use Rattle.attributes.specs.declared.field.Step.the-variants.{Is, Done, Refused}
-use Rattle.attributes.specs.declared.value.ValueCursor.{ValueCursor}
-use Rattle.attributes.specs.declared.value.NextValue.{NextValue}
-use Rattle.attributes.specs.declared.value.NextValue.the-variants as next
 use Rattle.attributes.specs.Attributes.{Walk, done, refused, then}
-
--- ── the walk ──
 
 -- the attribute that begins at a cursor and whose `=` is at e: the next cursor is one past its `;`, or one past the end
 abbrev pub fieldTo : List ℕ → ℕ → ℕ → Field
@@ -44,24 +39,3 @@ stepped (Is field) f = f field
 unfoldable pub steps : ℕ → List ℕ → ℕ → Walk
 steps zero s at = done
 steps (suc n) s at = stepped (stepOf s at) (λ field. then (textAt (field .tag) s) (textAt (field .value) s) (steps n s (field .next)))
-
--- ── the values of a value ──
-
--- the value that begins at a cursor and ends at e: it is the last where e is the text's end
-abbrev pub valueTo : List ℕ → ℕ → ℕ → NextValue
-valueTo s at e = next.Is (record { start = at; end = e }) (record { at = e + 1; out = eqb e (length s) })
-
--- a cursor beyond the text counts as at its end. One that says "last not out" gives one empty value there; one that says "last out" is done
--- whatever its offset
-unfoldable pub nextValueOf : List ℕ → ValueCursor → NextValue
-nextValueOf s c = let at = min (c .at) (length s) in cond (c .out) next.Done (valueTo s at (found 44 at s))
-
--- what comes of a step over the values
-abbrev pub handed : NextValue → (Place → ValueCursor → List (List ℕ)) → List (List ℕ)
-handed next.Done f = []
-handed (next.Is place cursor) f = f place cursor
-
--- the values, as they stand, that n steps in a row hand out
-unfoldable pub valueSteps : ℕ → List ℕ → ValueCursor → List (List ℕ)
-valueSteps zero s c = []
-valueSteps (suc n) s c = handed (nextValueOf s c) (λ place cursor. textAt place s ∷ valueSteps n s cursor)

@@ -6,7 +6,7 @@ use mathlib.Core.List.{List, [], _∷_, _++_, map}
 use mathlib.Core.Logic.{_≢_}
 use Rattle.lists.specs.Bytes.{Every, Bytes}
 use Rattle.percent.specs.Percent.{encoded}
-use Rattle.attributes.specs.Pieces.{joined}
+use Rattle.values.specs.Pieces.{joined}
 use Rattle.attributes.specs.Attributes.{Attribute}
 
 -- an attribute that can be written: bytes, and a value at least

@@ -26,7 +26,7 @@ pub fn is_empty(column: &[u8]) -> bool
     if column.len() == 0 {
         return true;
     }
-    scan::is_dot(column)
+    words::is_dot(column)
 }
 
 // The attribute at a cursor. `a=1;b;c=2` has the tags `a` and `b;c`; `a=1;` has one; `a=1;b` has one, and then 5. A cursor in the middle
@@ -34,7 +34,7 @@ pub fn is_empty(column: &[u8]) -> bool
 pub fn next_field(column: &[u8], at: usize) -> Step
     ensures { λ r. ⌜ r ≡ stepOf (now (column .entry)) at ⌝ }
 {
-    if scan::is_dot(column) {
+    if words::is_dot(column) {
         return Step::Done;
     }
     if column.len() <= at {

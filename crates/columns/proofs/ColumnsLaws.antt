@@ -8,7 +8,7 @@ use mathlib.Core.Path.{_≡_, refl, sym, ap, ap₂, _∙_}
 use mathlib.Core.Bool.{Bool, true, false, cond, _&&_, true≢false}
 use mathlib.Core.List.{List, [], _∷_, _++_}
 use lib.Dec.{eqb}
-use lib.ListN.{length, drop, getD, length-append, length-drop, List·getD-eq-default}
+use lib.ListN.{length, drop, getD, length-append, length-take, length-drop, List·getD-eq-default}
 use lib.Seq.{take-all, take-append-seam, drop-append-add}
 use borrow.Author.Tests.{eq-eqb, ne-eqb, eqb-true, leb-true, le-leb}
 use Rattle.lists.specs.Bytes.{Every, Lacks}
@@ -20,7 +20,7 @@ use Rattle.columns.specs.declared.bounds.Bounds.{Bounds}
 use Rattle.columns.specs.declared.bounds.Indexed.the-variants.{At, Refused}
 use Rattle.columns.specs.declared.column.Column.{Column}
 use Rattle.columns.specs.declared.column.Column.the-variants as column
-use Rattle.columns.specs.Columns.{end, ends, isRecord, indexed, listed, same-after, matches, isOwn, between-tabs, columnPlace, columnText, rowOf, tabsBefore}
+use Rattle.columns.specs.Columns.{end, ends, isRecord, indexed, listed, same-after, matches, isOwn, placeIn, columnText, rowOf, tabsBefore}
 
 -- ── the eight cuts ────────────────────────────────────────────────────────────────────────────
 
@@ -112,8 +112,16 @@ own-record s e = rw e (same-self (listed (ends s)))
 
 -- ── a column's place ──────────────────────────────────────────────────────────────────────────
 
-pub place-is : (n : ℕ) (s : List ℕ) {p : Place} → (p .start ≡ end n s) × (p .end ≡ end (suc n) s - 1) → p ≡ between-tabs n s
-place-is n s h = ap₂ (λ (a e : ℕ). record { start = a; end = e }) (h .0) (h .1)
+pub place-is : {p : Place} {a e : ℕ} → (p .start ≡ a) × (p .end ≡ e) → p ≡ record { start = a; end = e }
+place-is h = ap₂ (λ (a e : ℕ). record { start = a; end = e }) (h .0) (h .1)
+
+-- where columns 1 to 8 of a line stand, by the number of tabs before
+abbrev pub between-tabs : ℕ → List ℕ → Place
+between-tabs n s = record { start = end n s; end = end (suc n) s - 1 }
+
+-- what stands at a place is no longer than the whole
+pub text-short : (p : Place) (s : List ℕ) → length (textAt p s) ≤ length s
+text-short p s = simp (length-take, length-drop) (omega arith)
 
 -- ── a row that is written ─────────────────────────────────────────────────────────────────────
 
@@ -162,7 +170,7 @@ module _ (row : List (List ℕ)) (rest : List ℕ) (eight : length row ≡ 8) (l
 
   -- and each column is read back
   pub row-text : (c : Column) → columnText c (rowOf row rest) ≡ getD row (tabsBefore c) rest
-  unfolding columnPlace
+  unfolding placeIn ends end
   row-text column.ReferenceSequenceName = row-column 0 row rest lacks (omega arith)
   row-text column.Source = row-column 1 row rest lacks (omega arith)
   row-text column.Ty = row-column 2 row rest lacks (omega arith)

@@ -1,4 +1,3 @@
 pub mod ColumnsLaws
-pub mod FieldsLaws
 mod Samples
 mod Unique

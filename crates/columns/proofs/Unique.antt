@@ -1,30 +1,17 @@
 -- Each public function's promise allows one result and one content of a lent buffer. Assumes nothing.
 use mathlib.Core.Path.{sym, _∙_}
 use denote.Ref.{now}
-use Rattle.lists.proofs.One.{One, OneResult}
-use Rattle.buffer.proofs.AnswerLaws.{wrote-one}
+use Rattle.lists.proofs.One.{OneResult, OneShown}
 use Rattle.columns.proofs.bounds.index.Kinds as index-kinds
 use Rattle.columns.proofs.bounds.index.Reads as index
 use Rattle.columns.proofs.bounds.own.Kinds as own-kinds
 use Rattle.columns.proofs.bounds.own.Reads as own
 use Rattle.columns.proofs.column.column_at.Kinds as column-at-kinds
 use Rattle.columns.proofs.column.column_at.Reads as column-at
-use Rattle.columns.proofs.position.start_at.Kinds as start-at-kinds
-use Rattle.columns.proofs.position.start_at.Reads as start-at
-use Rattle.columns.proofs.position.end_at.Kinds as end-at-kinds
-use Rattle.columns.proofs.position.end_at.Reads as end-at
-use Rattle.columns.proofs.score.score_at.Kinds as score-at-kinds
-use Rattle.columns.proofs.score.score_at.Reads as score-at
-use Rattle.columns.proofs.strand.strand_at.Kinds as strand-at-kinds
-use Rattle.columns.proofs.strand.strand_at.Reads as strand-at
-use Rattle.columns.proofs.phase.phase_at.Kinds as phase-at-kinds
-use Rattle.columns.proofs.phase.phase_at.Reads as phase-at
-use Rattle.columns.proofs.texts.reference_sequence_name.Kinds as reference-sequence-name-kinds
-use Rattle.columns.proofs.texts.reference_sequence_name.Reads as reference-sequence-name
-use Rattle.columns.proofs.texts.source.Kinds as source-kinds
-use Rattle.columns.proofs.texts.source.Reads as source
-use Rattle.columns.proofs.texts.ty.Kinds as ty-kinds
-use Rattle.columns.proofs.texts.ty.Reads as ty
+use Rattle.columns.proofs.column.place_in.Kinds as place-in-kinds
+use Rattle.columns.proofs.column.place_in.Reads as place-in
+use Rattle.columns.proofs.column.text_in.Kinds as text-in-kinds
+use Rattle.columns.proofs.column.text_in.Reads as text-in
 
 index-one : OneResult 1 index-kinds.ps index-kinds.r index.Post
 index-one κs a x y s t p q = p ∙ sym q
@@ -35,26 +22,8 @@ own-one κs a x y s t p q = p ∙ sym q
 column-at-one : OneResult 1 column-at-kinds.ps column-at-kinds.r column-at.Post
 column-at-one κs a x y s t p q = p ∙ sym q
 
-start-at-one : OneResult 1 start-at-kinds.ps start-at-kinds.r start-at.Post
-start-at-one κs a x y s t p q = p ∙ sym q
+place-in-one : OneResult 0 place-in-kinds.ps place-in-kinds.r place-in.Post
+place-in-one κs a x y s t p q = p ∙ sym q
 
-end-at-one : OneResult 1 end-at-kinds.ps end-at-kinds.r end-at.Post
-end-at-one κs a x y s t p q = p ∙ sym q
-
-score-at-one : OneResult 1 score-at-kinds.ps score-at-kinds.r score-at.Post
-score-at-one κs a x y s t p q = p ∙ sym q
-
-strand-at-one : OneResult 1 strand-at-kinds.ps strand-at-kinds.r strand-at.Post
-strand-at-one κs a x y s t p q = p ∙ sym q
-
-phase-at-one : OneResult 1 phase-at-kinds.ps phase-at-kinds.r phase-at.Post
-phase-at-one κs a x y s t p q = p ∙ sym q
-
-reference-sequence-name-one : One 2 reference-sequence-name-kinds.ps reference-sequence-name-kinds.r reference-sequence-name.Post (λ κs x. x) (λ κs s. now (s .1 .1 .0))
-reference-sequence-name-one κs a x y s t p q = wrote-one p q
-
-source-one : One 2 source-kinds.ps source-kinds.r source.Post (λ κs x. x) (λ κs s. now (s .1 .1 .0))
-source-one κs a x y s t p q = wrote-one p q
-
-ty-one : One 2 ty-kinds.ps ty-kinds.r ty.Post (λ κs x. x) (λ κs s. now (s .1 .1 .0))
-ty-one κs a x y s t p q = wrote-one p q
+text-in-one : OneShown 1 text-in-kinds.ps text-in-kinds.r text-in.Post (λ κs x. now x)
+text-in-one κs a x y s t p q = p .0 ∙ sym (q .0)

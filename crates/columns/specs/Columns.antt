@@ -12,6 +12,8 @@ use Rattle.columns.specs.declared.bounds.Indexed.{Indexed}
 use Rattle.columns.specs.declared.bounds.Indexed.the-variants.{At, Refused}
 use Rattle.columns.specs.declared.column.Column.{Column}
 use Rattle.columns.specs.declared.column.Column.the-variants as column
+use Rattle.columns.specs.declared.column.ColumnRead.{ColumnRead}
+use Rattle.columns.specs.declared.column.ColumnRead.the-variants as columnRead
 
 -- one past tab number n of a line, or past the line where it has fewer
 unfoldable pub end : ℕ → List ℕ → ℕ
@@ -65,23 +67,28 @@ isOwn s b = matches (indexed s) b
 
 -- ── a column ──
 
--- where columns 1 to 8 stand: from behind the tab before it to its own tab; column 9 is the rest
-abbrev pub between-tabs : ℕ → List ℕ → Place
-between-tabs n s = record { start = end n s; end = end (suc n) s - 1 }
+-- where a column stands by bounds, in a line of n bytes: from behind the tab before it to its own tab; column 9 is the rest
+unfoldable pub placeIn : Column → Bounds → ℕ → Place
+placeIn column.ReferenceSequenceName b n = record { start = 0; end = b .«reference_sequence_name_end» - 1 }
+placeIn column.Source b n = record { start = b .«reference_sequence_name_end»; end = b .«source_end» - 1 }
+placeIn column.Ty b n = record { start = b .«source_end»; end = b .«type_end» - 1 }
+placeIn column.Start b n = record { start = b .«type_end»; end = b .«start_end» - 1 }
+placeIn column.End b n = record { start = b .«start_end»; end = b .«end_end» - 1 }
+placeIn column.Score b n = record { start = b .«end_end»; end = b .«score_end» - 1 }
+placeIn column.Strand b n = record { start = b .«score_end»; end = b .«strand_end» - 1 }
+placeIn column.Phase b n = record { start = b .«strand_end»; end = b .«phase_end» - 1 }
+placeIn column.Attributes b n = record { start = b .«phase_end»; end = n }
 
-unfoldable pub columnPlace : Column → List ℕ → Place
-columnPlace column.ReferenceSequenceName s = between-tabs 0 s
-columnPlace column.Source s = between-tabs 1 s
-columnPlace column.Ty s = between-tabs 2 s
-columnPlace column.Start s = between-tabs 3 s
-columnPlace column.End s = between-tabs 4 s
-columnPlace column.Score s = between-tabs 5 s
-columnPlace column.Strand s = between-tabs 6 s
-columnPlace column.Phase s = between-tabs 7 s
-columnPlace column.Attributes s = record { start = end 8 s; end = length s }
+-- where a column of a line stands, and its text
+abbrev pub columnPlace : Column → List ℕ → Place
+columnPlace c s = placeIn c (ends s) (length s)
 
 abbrev pub columnText : Column → List ℕ → List ℕ
 columnText c s = textAt (columnPlace c s) s
+
+-- refused, by number 1, where the bounds are not the line's own
+unfoldable pub columnAt : Column → List ℕ → Bounds → ColumnRead
+columnAt c s b = cond (isOwn s b) (columnRead.At (columnPlace c s)) columnRead.Refused
 
 -- ── a row that is written ──
 

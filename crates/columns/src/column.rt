@@ -2,9 +2,10 @@
 use super::bounds::Bounds;
 use scan::Place;
 ghost use mathlib.Core.Path.{_≡_};
-ghost use Prim.Native.Nat.{_-_};
-ghost use Rattle.columns.specs.Columns.{ends, columnPlace, columnText};
-ghost use Rattle.columns.specs.Fields.{columnAt};
+ghost use Prim.Native.Nat.{_-_, _≤_};
+ghost use lib.ListN.{length};
+ghost use Rattle.scan.specs.Part.{textAt};
+ghost use Rattle.columns.specs.Columns.{placeIn, columnAt};
 
 pub enum Column {
     ReferenceSequenceName,
@@ -41,10 +42,9 @@ fn between(from: usize, past: usize) -> Place
     }
 }
 
-// Where a column stands in a line whose bounds these are.
-pub(crate) fn place(line: &[u8], bounds: Bounds, column: Column) -> Place
-    requires { ⌜ bounds ≡ ends (now line) ⌝ }
-    ensures { λ r. ⌜ r ≡ columnPlace column (now (line .entry)) ⌝ }
+// Where a column stands by these bounds, in a line of so many bytes. Of bounds that are no line's own it is a place all the same.
+pub fn place_in(column: Column, bounds: Bounds, len: usize) -> Place
+    ensures { λ r. ⌜ r ≡ placeIn column bounds len ⌝ }
 {
     let b = bounds;
     match column {
@@ -58,17 +58,17 @@ pub(crate) fn place(line: &[u8], bounds: Bounds, column: Column) -> Place
         Column::Phase => between(b.strand_end, b.phase_end),
         Column::Attributes => Place {
             start: b.phase_end,
-            end: line.len(),
+            end: len,
         },
     }
 }
 
-// The text of a column of a line whose bounds these are.
-pub(crate) fn text<'a>(line: &'a [u8], bounds: Bounds, column: Column) -> &'a [u8]
-    requires { ⌜ bounds ≡ ends (now line) ⌝ }
-    ensures { λ r. ⌜ now r ≡ columnText column (now (line .entry)) ⌝ }
+// The text of a column by these bounds.
+pub fn text_in<'a>(line: &'a [u8], bounds: Bounds, column: Column) -> &'a [u8]
+    ensures text { λ r. ⌜ now r ≡ textAt (placeIn column bounds (length (now (line .entry)))) (now (line .entry)) ⌝ }
+    ensures short { λ r. ⌜ length (now r) ≤ length (now (line .entry)) ⌝ }
 {
-    scan::text(line, place(line, bounds, column))
+    scan::text(line, place_in(column, bounds, line.len()))
 }
 
 // A raw column as a place in the line; refused, by number 1, where these are not the line's own bounds.
@@ -76,7 +76,7 @@ pub fn column_at(line: &[u8], bounds: Bounds, column: Column) -> ColumnRead
     ensures { λ r. ⌜ r ≡ columnAt column (now (line .entry)) bounds ⌝ }
 {
     if super::bounds::own(line, bounds) {
-        ColumnRead::At(place(line, bounds, column))
+        ColumnRead::At(place_in(column, bounds, line.len()))
     } else {
         ColumnRead::Refused
     }

@@ -11,7 +11,7 @@ use borrow.Author.Tests.{eqb-false}
 use Rattle.buffer.specs.Answer.{first}
 use Rattle.lines.specs.declared.kind.Kind.the-variants.{Comment}
 use Rattle.lines.specs.Kind.{kind}
-use Rattle.lines.specs.Lines.{OneLine}
+use Rattle.splitter.specs.Lines.{OneLine}
 use Rattle.lines.specs.Reading.{ReadsComment}
 use Rattle.lines.proofs.KindLaws.{kind-comment, comment-reads}
 use Rattle.texts.proofs.TextLaws.{no-return, no-feed}

@@ -5,9 +5,9 @@ use mathlib.Core.Path.{_≡_, refl, sym, ap, _∙_}
 use mathlib.Core.List.{List, [], _∷_, _++_, append-assoc, append-nil, tail-eq-of-cons-eq, head-eq-of-cons-eq}
 use lib.ListN.{length, length-append}
 use Rattle.lists.specs.Bytes.{Every}
-use Rattle.lines.specs.Lines.{lines-after, lines, text, OneLine}
+use Rattle.splitter.specs.Lines.{lines-after, lines, text, OneLine}
 use Rattle.demands.specs.Damage.{Chunk, arrived, read}
-use Rattle.lines.proofs.LinesLaws.{text-append, lines-text, lines-append}
+use Rattle.splitter.proofs.LinesLaws.{text-append, lines-text, lines-append}
 
 -- ── by parts ──────────────────────────────────────────────────────────────────────────────────
 

@@ -2,15 +2,16 @@
 use native.Mathlib.Omega.{arith}
 use mathlib.Core.Path.{refl}
 use mathlib.Core.List.{[]}
-use Rattle.numbers.specs.Decimal.{decimal}
-use Rattle.percent.specs.declared.set.Set.the-variants as set
+use Rattle.decimals.specs.Decimal.{decimal}
+use Rattle.sets.specs.declared.Set.the-variants as set
 use Rattle.percent.specs.Percent.{decoded, encoded}
-use Rattle.percent.specs.Sets.{escapes, encode-reasons}
-use Rattle.percent.proofs.SetLaws.{decoded-set}
+use Rattle.sets.specs.Sets.{escapes}
+use Rattle.encoding.specs.Encode.{encode-reasons}
+use Rattle.sets.proofs.SetLaws.{decoded-set}
 use Rattle.columns.specs.Columns.{columnText}
-use Rattle.columns.specs.Fields.{text-reasons}
 use Rattle.columns.proofs.ColumnsLaws.{row-record, row-text}
-use Rattle.attributes.proofs.ValueLaws.{values-steps}
+use Rattle.fields.specs.Fields.{text-reasons}
+use Rattle.values.proofs.ValueLaws.{values-steps}
 use Rattle.attributes.proofs.WalkLaws.{steps-walk}
 use Rattle.attributes.proofs.WrittenLaws.{walk-column}
 use Rattle.comments.proofs.RoundTrip.{comment-back}

@@ -10,7 +10,7 @@ use borrow.Author.Tests.{le-ltb}
 use Rattle.buffer.specs.declared.Written.{Written}
 use Rattle.buffer.specs.declared.Written.the-variants.{Done, Refused, NoRoom}
 use Rattle.buffer.specs.Answer.{first, number, answer, contents, Wrote}
-use Rattle.lines.specs.Lines.{OneLine}
+use Rattle.splitter.specs.Lines.{OneLine}
 use Rattle.comments.proofs.RoundTrip.{comment-kind, comment-back, comment-one}
 use Rattle.marks.proofs.RoundTrip.{directive-kind, directive-back, directive-one, typed-back}
 use Rattle.roundtrip.proofs.RecordBack.{record-one, record-back}

@@ -7,9 +7,9 @@ use mathlib.Core.List.{List, [], _∷_, _++_, append-nil}
 use lib.ListN.{length, length-append}
 use Rattle.lists.specs.Bytes.{Every}
 use Rattle.lists.proofs.EveryLaws.{every-map}
-use Rattle.lines.specs.Lines.{lines, text, OneLine}
-use Rattle.lines.proofs.LinesLaws.{lines-of-text}
-use Rattle.lines.proofs.StepLaws.{steps-lines}
+use Rattle.splitter.specs.Lines.{lines, text, OneLine}
+use Rattle.splitter.proofs.LinesLaws.{lines-of-text}
+use Rattle.splitter.proofs.StepLaws.{steps-lines}
 use Rattle.demands.specs.Item.{Item, line-of, Accepted, ReadsBack}
 use Rattle.demands.specs.Survivors.{lines-of, text-of, before, after}
 use Rattle.lists.proofs.EveryLaws.{every-each, every-parts}

@@ -9,7 +9,7 @@ use lib.Dec.{leb}
 use lib.ListN.{length, length-append}
 use borrow.Author.Tests.{leb-true, le-leb, lt-leb}
 use Rattle.lists.specs.Bytes.{Every}
-use Rattle.lines.specs.Lines.{text}
+use Rattle.splitter.specs.Lines.{text}
 use Rattle.comments.specs.Comment.{comment-reasons, hashed}
 use Rattle.texts.specs.Text.{holds}
 use Rattle.demands.specs.Item.{Item, comment, line-of, reasons-of, Typed, Accepted}

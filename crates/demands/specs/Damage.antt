@@ -2,7 +2,7 @@
 -- nothing: these are definitions.
 use Prim.Native.Nat.{ℕ}
 use mathlib.Core.List.{List, [], _∷_, _++_}
-use Rattle.lines.specs.Lines.{lines, text}
+use Rattle.splitter.specs.Lines.{lines, text}
 
 -- the bytes of a damaged place, up to a line feed that came through, and the whole lines behind that line feed
 pub record Chunk : Type 0 where

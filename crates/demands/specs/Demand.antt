@@ -13,31 +13,33 @@ use lib.ListN.{length, drop, getD}
 use Rattle.lists.specs.Bytes.{Every, Bytes, Lacks}
 use Rattle.buffer.specs.declared.Written.the-variants.{Done}
 use Rattle.buffer.specs.Answer.{Reason, _when_, first, number, Wrote}
-use Rattle.numbers.specs.Decimal.{decimal}
-use Rattle.percent.specs.declared.set.Set.{Set}
-use Rattle.percent.specs.declared.set.Set.the-variants as set
+use Rattle.decimals.specs.Decimal.{decimal}
+use Rattle.sets.specs.declared.Set.{Set}
+use Rattle.sets.specs.declared.Set.the-variants as set
 use Rattle.percent.specs.Percent.{decoded, encoded}
-use Rattle.percent.specs.Sets.{escapes, encode-reasons}
-use Rattle.lines.specs.Step.{steps}
+use Rattle.sets.specs.Sets.{escapes}
+use Rattle.encoding.specs.Encode.{encode-reasons}
+use Rattle.splitter.specs.Step.{steps}
 use Rattle.lines.specs.Reading.{ReadsComment, ReadsDirective}
 use Rattle.columns.specs.declared.bounds.Bounds.{Bounds}
 use Rattle.columns.specs.declared.column.Column.{Column}
 use Rattle.columns.specs.Columns.{isRecord, columnText, rowOf, tabsBefore}
-use Rattle.columns.specs.Fields.{text-reasons}
+use Rattle.fields.specs.Fields.{text-reasons}
 use Rattle.attributes.specs.Attributes.{Attribute, walk-from, walk, attributes}
-use Rattle.attributes.specs.Pieces.{pieces}
+use Rattle.values.specs.Pieces.{pieces}
 use Rattle.attributes.specs.Step as column9
+use Rattle.values.specs.Step as value
 use Rattle.attributes.specs.Written.{Writable, column}
-use Rattle.attributes.proofs.ValueLaws.{start}
 use Rattle.marks.specs.declared.directive.Value.{Value}
 use Rattle.comments.specs.Comment.{comment-reasons, comment-line}
 use Rattle.marks.specs.Directive.{directive-reasons, directive-line}
 use Rattle.marks.specs.Reading.{value-text, Sized, Back}
 use Rattle.sheet.specs.Sheet.{sheet-of}
-use Rattle.unfold.specs.declared.judging.Numbers.{Numbers}
+use Rattle.judging.specs.declared.judging.Numbers.{Numbers}
+use Rattle.judging.specs.Judge.{unfolded, unfold-reasons}
 use Rattle.unfold.specs.declared.lay.Unfolded.{Unfolded}
 use Rattle.unfold.specs.declared.lay.Unfolded.the-variants as outcome
-use Rattle.unfold.specs.Unfold.{unfolded, unfold-reasons, Unfolds}
+use Rattle.unfold.specs.Unfold.{Unfolds}
 use Rattle.demands.specs.Item.{Item, line-of, reasons-of, Accepted, ReadsBack}
 use Rattle.demands.specs.Survivors.{lines-of, text-of, before, after, size-behind}
 
@@ -103,7 +105,7 @@ pub record Demand2 : Type 0 where
   pub walked : (l : List Attribute) → Every Writable l → attributes (walk (column (escapes set.Attribute) l)) ≡ some l
   -- `next_field`, called from a cursor on, meets that walk, and `next_value` hands out a value's pieces between commas
   pub fields-met : (n : ℕ) (s : List ℕ) (at : ℕ) → length s - at ≤ 2 * n → column9.steps n s at ≡ walk-from s at
-  pub values-met : (n : ℕ) (s : List ℕ) → length s < n → column9.valueSteps n s start ≡ pieces 44 s
+  pub values-met : (n : ℕ) (s : List ℕ) → length s < n → value.valueSteps n s value.fresh ≡ pieces 44 s
   -- GFF3, directives and comments: what is written as one reads back, a directive's parts each, a typed value from its own reader
   pub directive : (key : List ℕ) (value : Value) (one two : List ℕ) → first (directive-reasons key value one two) ≡ 0
       → ReadsDirective (directive-line key value one two) key (value-text value one two)

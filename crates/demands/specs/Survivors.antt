@@ -4,7 +4,7 @@ use mathlib.Core.Bool.{cond}
 use mathlib.Core.List.{List, [], _∷_, map}
 use lib.Dec.{leb}
 use lib.ListN.{length}
-use Rattle.lines.specs.Lines.{text}
+use Rattle.splitter.specs.Lines.{text}
 use Rattle.demands.specs.Item.{Item, line-of}
 
 -- the lines of items

@@ -9,7 +9,7 @@ use lib.ListN.{length}
 use Rattle.lists.specs.Bytes.{Every}
 use Rattle.scan.specs.Find.{index}
 use Rattle.scan.specs.Part.{textAt}
-use Rattle.scan.specs.Word.{isSpace}
+use Rattle.words.specs.Word.{isSpace}
 use Rattle.directives.specs.declared.genome_build.BuildRead.the-variants.{Is, Refused}
 use Rattle.directives.specs.GenomeBuild.{buildOf}
 use Rattle.directives.specs.Then.{wordThen}

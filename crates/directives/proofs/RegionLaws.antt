@@ -9,10 +9,10 @@ use lib.ListN.{length, length-append}
 use Rattle.lists.specs.Bytes.{Every}
 use Rattle.scan.specs.Find.{index}
 use Rattle.scan.specs.Part.{textAt}
-use Rattle.scan.specs.Word.{isSpace}
-use Rattle.numbers.specs.Decimal.{decimal}
+use Rattle.words.specs.Word.{isSpace}
+use Rattle.decimals.specs.Decimal.{decimal}
 use Rattle.numbers.specs.Number.{most64}
-use Rattle.numbers.proofs.DecimalLaws.{decimal-some, region-position-decimal}
+use Rattle.decimals.proofs.DecimalLaws.{decimal-some, region-position-decimal}
 use Rattle.directives.specs.declared.sequence_region.RegionRead.the-variants.{Is, Refused}
 use Rattle.directives.specs.SequenceRegion.{endOf, startOf, regionOf}
 use Rattle.directives.specs.Then.{wordThen}

@@ -2,24 +2,17 @@
 use mathlib.Core.Path.{_≡_, refl}
 use mathlib.Core.List.{[], _∷_}
 use Rattle.scan.specs.Find.{index, seek}
-use Rattle.scan.specs.Word.{isSpace}
+use Rattle.words.specs.Word.{isSpace}
 use Rattle.numbers.specs.Number.{allDigits, someDigits, value-after, numeral, sansPlus}
 use Rattle.directives.specs.declared.genome_build.BuildRead.the-variants as build
-use Rattle.directives.specs.declared.gff_version.Part.the-variants.{Absent}
-use Rattle.directives.specs.declared.gff_version.VersionRead.the-variants as version
 use Rattle.directives.specs.declared.sequence_region.RegionRead.the-variants as region
 use Rattle.directives.specs.GenomeBuild.{buildOf}
-use Rattle.directives.specs.GffVersion.{patchOf, minorOf, versionOf}
 use Rattle.directives.specs.SequenceRegion.{endOf, startOf, regionOf}
 use Rattle.directives.specs.Then.{wordThen}
 
 samples :
     -- nothing
-    (versionOf [] ≡ version.Refused 6) × (regionOf [] ≡ region.Refused 6) × (buildOf [] ≡ build.Refused 6)
-    -- versions: 3.1.26.4, 3. and +3
-    × (versionOf (51 ∷ 46 ∷ 49 ∷ 46 ∷ 50 ∷ 54 ∷ 46 ∷ 52 ∷ []) ≡ version.Refused 9)
-    × (versionOf (51 ∷ 46 ∷ []) ≡ version.Refused 8)
-    × (versionOf (43 ∷ 51 ∷ []) ≡ version.Is (record { major = 3; minor = Absent; patch = Absent }))
+    (regionOf [] ≡ region.Refused 6) × (buildOf [] ≡ build.Refused 6)
     -- regions: one space, `sq0 8`, `sq0 0 9`, `sq0 x` and `sq0 8 13`
     × (regionOf (32 ∷ []) ≡ region.Refused 10)
     × (regionOf (115 ∷ 113 ∷ 48 ∷ 32 ∷ 56 ∷ []) ≡ region.Refused 13)
@@ -30,5 +23,5 @@ samples :
     × (buildOf (32 ∷ 97 ∷ 32 ∷ 32 ∷ 98 ∷ 32 ∷ 99 ∷ []) ≡ build.Is (record { source = record { start = 1; end = 2 }; name = record { start = 4; end = 5 } }))
     × (buildOf (97 ∷ []) ≡ build.Refused 16)
     × (buildOf (32 ∷ []) ≡ build.Refused 15)
-unfolding versionOf minorOf patchOf regionOf startOf endOf buildOf wordThen seek index isSpace numeral someDigits allDigits value-after sansPlus
-samples = (refl, refl, refl, refl, refl, refl, refl, refl, refl, refl, refl, refl, refl, refl)
+unfolding regionOf startOf endOf buildOf wordThen seek index isSpace numeral someDigits allDigits value-after sansPlus
+samples = (refl, refl, refl, refl, refl, refl, refl, refl, refl, refl)

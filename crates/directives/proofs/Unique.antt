@@ -1,15 +1,10 @@
 -- Each public function's promise allows one result and one content of a lent buffer. Assumes nothing.
 use mathlib.Core.Path.{sym, _∙_}
 use Rattle.lists.proofs.One.{OneResult}
-use Rattle.directives.proofs.gff_version.parse_gff_version.Kinds as parse-gff-version-kinds
-use Rattle.directives.proofs.gff_version.parse_gff_version.Reads as parse-gff-version
 use Rattle.directives.proofs.sequence_region.parse_sequence_region.Kinds as parse-sequence-region-kinds
 use Rattle.directives.proofs.sequence_region.parse_sequence_region.Reads as parse-sequence-region
 use Rattle.directives.proofs.genome_build.parse_genome_build.Kinds as parse-genome-build-kinds
 use Rattle.directives.proofs.genome_build.parse_genome_build.Reads as parse-genome-build
-
-parse-gff-version-one : OneResult 1 parse-gff-version-kinds.ps parse-gff-version-kinds.r parse-gff-version.Post
-parse-gff-version-one κs a x y s t p q = p ∙ sym q
 
 parse-sequence-region-one : OneResult 1 parse-sequence-region-kinds.ps parse-sequence-region-kinds.r parse-sequence-region.Post
 parse-sequence-region-one κs a x y s t p q = p ∙ sym q

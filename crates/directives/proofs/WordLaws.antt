@@ -5,20 +5,17 @@ use mathlib.Core.Path.{_≡_, refl, sym, ap, _∙_}
 use mathlib.Core.Logic.{_≢_}
 use mathlib.Core.Bool.{Bool, true, false}
 use mathlib.Core.List.{List, [], _∷_, _++_, append-nil}
-use lib.Dec.{leb}
 use lib.ListN.{length, drop, length-append}
 use lib.Seq.{drop-at, drop-drop, drop-append-seam, take-at}
-use borrow.Author.Tests.{leb-true, eq-eqb, ne-eqb}
+use borrow.Author.Tests.{eq-eqb, ne-eqb}
 use Rattle.lists.specs.Bytes.{Every}
-use Rattle.lists.proofs.BoolLaws.{and-left, and-right}
 use Rattle.scan.specs.declared.place.Place.{Place}
 use Rattle.scan.specs.Find.{index}
 use Rattle.scan.specs.Part.{textAt}
-use Rattle.scan.specs.Word.{isSpace, isInk, space, ink, word}
+use Rattle.words.specs.Word.{isSpace, isInk, space, ink, word}
 use Rattle.scan.proofs.FindLaws.{index-append, seek-at}
-use Rattle.numbers.specs.Decimal.{decimal}
-use Rattle.numbers.specs.Number.{isDigit}
-use Rattle.numbers.proofs.DecimalLaws.{decimal-digits}
+use Rattle.decimals.specs.Decimal.{decimal}
+use Rattle.decimals.proofs.DecimalLaws.{decimal-fails}
 use Rattle.directives.specs.Then.{wordThen}
 
 -- ── what `wordThen` comes to ──────────────────────────────────────────────────────────────────
@@ -86,15 +83,6 @@ module _ (w : List ℕ) (inked : Every (λ x. isSpace x ≡ false) w) (some : 0 
     word-last = rw append-nil at (word-behind [] refl)
 
 -- ── digits are no white space ─────────────────────────────────────────────────────────────────
-
--- a test that no digit passes fails on each byte of a number as it is written
-pub decimal-fails : (test : ℕ → Bool) → ((x : ℕ) → 48 ≤ x → x ≤ 57 → test x ≡ false) → (n : ℕ) → Every (λ x. test x ≡ false) (decimal n)
-decimal-fails test fails n = each (decimal n) (decimal-digits n)
-  where
-    each : (s : List ℕ) → Every (λ x. isDigit x ≡ true) s → Every (λ x. test x ≡ false) s
-    each [] h = tt
-    each (x ∷ s) h =
-        (fails x (leb-true 48 x (and-left (leb 48 x) (leb x 57) (h .0))) (leb-true x 57 (and-right (leb 48 x) (leb x 57) (h .0))), each s (h .1))
 
 pub decimal-inked : (n : ℕ) → Every (λ x. isSpace x ≡ false) (decimal n)
 unfolding isSpace

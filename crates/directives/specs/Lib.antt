@@ -1,4 +1,3 @@
 pub mod GenomeBuild
-pub mod GffVersion
 pub mod SequenceRegion
 pub mod Then

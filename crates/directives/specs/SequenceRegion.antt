@@ -6,10 +6,10 @@ use Prim.Native.Nat.{ℕ}
 use mathlib.Core.List.{List, [], _∷_}
 use Rattle.scan.specs.declared.place.Place.{Place}
 use Rattle.scan.specs.Part.{textAt}
-use Rattle.numbers.specs.Number.{regionPosition}
+use Rattle.numbers.specs.Number.{regionPosition, numberThen}
 use Rattle.directives.specs.declared.sequence_region.RegionRead.{RegionRead}
 use Rattle.directives.specs.declared.sequence_region.RegionRead.the-variants.{Is, Refused}
-use Rattle.directives.specs.Then.{wordThen, numberThen}
+use Rattle.directives.specs.Then.{wordThen}
 
 -- the end, where name and start were read
 unfoldable pub endOf : List ℕ → Place → ℕ → ℕ → RegionRead

@@ -22,11 +22,11 @@ pub fn parse_genome_build(text: &[u8]) -> BuildRead
     if text.len() == 0 {
         return BuildRead::Refused(6);
     }
-    let source = scan::next_word(text, 0);
+    let source = words::next_word(text, 0);
     if source.start == text.len() {
         return BuildRead::Refused(15);
     }
-    let name = scan::next_word(text, source.end);
+    let name = words::next_word(text, source.end);
     if name.start == text.len() {
         return BuildRead::Refused(16);
     }

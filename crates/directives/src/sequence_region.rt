@@ -21,7 +21,7 @@ pub enum RegionRead {
 fn end(text: &[u8], name: Place, start: u64, at: usize) -> RegionRead
     ensures { λ r. ⌜ r ≡ endOf (now (text .entry)) name start at ⌝ }
 {
-    let word = scan::next_word(text, at);
+    let word = words::next_word(text, at);
     if word.start == text.len() {
         return RegionRead::Refused(13);
     }
@@ -35,7 +35,7 @@ fn end(text: &[u8], name: Place, start: u64, at: usize) -> RegionRead
 fn start(text: &[u8], name: Place) -> RegionRead
     ensures { λ r. ⌜ r ≡ startOf (now (text .entry)) name ⌝ }
 {
-    let word = scan::next_word(text, name.end);
+    let word = words::next_word(text, name.end);
     if word.start == text.len() {
         return RegionRead::Refused(11);
     }
@@ -52,7 +52,7 @@ pub fn parse_sequence_region(text: &[u8]) -> RegionRead
     if text.len() == 0 {
         return RegionRead::Refused(6);
     }
-    let name = scan::next_word(text, 0);
+    let name = words::next_word(text, 0);
     if name.start == text.len() {
         return RegionRead::Refused(10);
     }

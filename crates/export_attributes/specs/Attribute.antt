@@ -5,11 +5,11 @@ use lib.Dec.{eqb}
 use Rattle.scan.specs.Mask.{bit}
 use Rattle.attributes.specs.declared.field.Step.{Step}
 use Rattle.attributes.specs.declared.field.Step.the-variants as step
-use Rattle.attributes.specs.declared.value.ValueCursor.{ValueCursor}
-use Rattle.attributes.specs.declared.value.NextValue.{NextValue}
-use Rattle.attributes.specs.declared.value.NextValue.the-variants as value
-use Rattle.attributes.specs.declared.lookup.Found.{Found}
-use Rattle.attributes.specs.declared.lookup.Found.the-variants as found
+use Rattle.values.specs.declared.ValueCursor.{ValueCursor}
+use Rattle.values.specs.declared.NextValue.{NextValue}
+use Rattle.values.specs.declared.NextValue.the-variants as value
+use Rattle.lookup.specs.declared.Found.{Found}
+use Rattle.lookup.specs.declared.Found.the-variants as found
 use Rattle.export_attributes.specs.declared.Gff3Field.{Gff3Field}
 use Rattle.export_attributes.specs.declared.Gff3Value.{Gff3Value}
 use Rattle.export_attributes.specs.declared.Gff3Found.{Gff3Found}

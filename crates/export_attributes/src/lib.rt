@@ -2,15 +2,16 @@
 //
 // Proved: each struct is the library's definition of the answer, by one definition for each enum, which gives document 01's number and
 // values for each case. Every function takes any bytes and numbers. Assumes nothing.
-use attributes::Found;
-use attributes::NextValue;
 use attributes::Step;
-use attributes::ValueCursor;
+use lookup::Found;
+use values::NextValue;
+use values::ValueCursor;
 ghost use mathlib.Core.Path.{_≡_};
 ghost use Rattle.scan.specs.Mask.{bit};
 ghost use Rattle.attributes.specs.Attributes.{isEmpty};
-ghost use Rattle.attributes.specs.Lookup.{lookup};
-ghost use Rattle.attributes.specs.Step.{stepOf, nextValueOf};
+ghost use Rattle.lookup.specs.Lookup.{lookup};
+ghost use Rattle.attributes.specs.Step.{stepOf};
+ghost use Rattle.values.specs.Step.{nextValueOf};
 ghost use Rattle.export_attributes.specs.Attribute.{fieldOf, cursorOf, valueOf, foundOf};
 
 #[repr(C)]
@@ -86,7 +87,7 @@ pub extern "C" fn gff3_next_field(column: &[u8], at: usize) -> Gff3Field
 pub extern "C" fn gff3_next_value(value: &[u8], at: usize, out: u64) -> Gff3Value
     ensures { λ r. ⌜ r ≡ valueOf (nextValueOf (now (value .entry)) (cursorOf at out)) ⌝ }
 {
-    match attributes::next_value(value, ValueCursor { at, out: out != 0 }) {
+    match values::next_value(value, ValueCursor { at, out: out != 0 }) {
         NextValue::Is(place, cursor) => Gff3Value {
             done: 0,
             start: place.start,
@@ -109,7 +110,7 @@ pub extern "C" fn gff3_next_value(value: &[u8], at: usize, out: u64) -> Gff3Valu
 pub extern "C" fn gff3_find_tag(column: &[u8], tag: &[u8]) -> Gff3Found
     ensures { λ r. ⌜ r ≡ foundOf (lookup (now (column .entry)) (now (tag .entry))) ⌝ }
 {
-    match attributes::find_tag(column, tag) {
+    match lookup::find_tag(column, tag) {
         Found::At(place) => Gff3Found {
             refused: 0,
             found: 1,

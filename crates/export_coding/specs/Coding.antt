@@ -2,8 +2,8 @@
 use Prim.Native.Nat.{ℕ}
 use mathlib.Core.Bool.{cond}
 use lib.Dec.{eqb}
-use Rattle.percent.specs.declared.set.Set.{Set}
-use Rattle.percent.specs.declared.set.Set.the-variants as set
+use Rattle.sets.specs.declared.Set.{Set}
+use Rattle.sets.specs.declared.Set.the-variants as set
 
 -- the set of a number: 1 for column 1, 2 for columns 2 and 3, and 3 or another for tags and values
 abbrev pub setOf : ℕ → Set

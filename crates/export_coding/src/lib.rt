@@ -4,11 +4,12 @@
 // values for each case. Every function takes any bytes and numbers. Assumes nothing.
 use answers::Gff3Number;
 use answers::Gff3Written;
-use percent::Set;
+use sets::Set;
 ghost use mathlib.Core.Path.{_≡_};
 ghost use mathlib.Core.List.{[]};
 ghost use Rattle.percent.specs.Percent.{decoded, encoded};
-ghost use Rattle.percent.specs.Sets.{escapes, encode-reasons};
+ghost use Rattle.sets.specs.Sets.{escapes};
+ghost use Rattle.encoding.specs.Encode.{encode-reasons};
 ghost use Rattle.tokens.specs.Tokens.{positionText};
 ghost use Rattle.answers.specs.Answers.{positionOf, Writes};
 ghost use Rattle.export_coding.specs.Coding.{setOf};
@@ -18,7 +19,7 @@ ghost use Rattle.export_coding.specs.Coding.{setOf};
 pub extern "C" fn gff3_decode(text: &[u8], out: &mut [u8]) -> Gff3Written
     ensures { λ r. ⌜ Writes [] (decoded (now (text .entry))) (now (out .entry)) (now (out .exit)) r ⌝ }
 {
-    answers::written_of(percent::decode(text, out))
+    answers::written_of(decoding::decode(text, out))
 }
 
 // Sets by their numbers; another number counts as 3.
@@ -37,7 +38,7 @@ fn set_of(set: u32) -> Set
 pub extern "C" fn gff3_encode(set: u32, text: &[u8], out: &mut [u8]) -> Gff3Written
     ensures { λ r. ⌜ Writes (encode-reasons (now (text .entry))) (encoded (escapes (setOf set)) (now (text .entry))) (now (out .entry)) (now (out .exit)) r ⌝ }
 {
-    answers::written_of(percent::encode(set_of(set), text, out))
+    answers::written_of(encoding::encode(set_of(set), text, out))
 }
 
 // A position, as columns 4 and 5 have it. Refusal 2.

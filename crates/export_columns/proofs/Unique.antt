@@ -1,45 +1,13 @@
--- Each public function's promise allows one result and one content of a lent buffer. Assumes nothing.
+-- Each public function's promise allows one result. Assumes nothing.
 use mathlib.Core.Path.{sym, _∙_}
-use denote.Ref.{now}
-use Rattle.lists.proofs.One.{One, OneResult}
-use Rattle.answers.proofs.AnswersLaws.{writes-one}
+use Rattle.lists.proofs.One.{OneResult}
 use Rattle.export_columns.proofs.gff3_index.Kinds as index-kinds
 use Rattle.export_columns.proofs.gff3_index.Reads as index
 use Rattle.export_columns.proofs.gff3_column.Kinds as gff3-column-kinds
 use Rattle.export_columns.proofs.gff3_column.Reads as gff3-column
-use Rattle.export_columns.proofs.gff3_start.Kinds as gff3-start-kinds
-use Rattle.export_columns.proofs.gff3_start.Reads as gff3-start
-use Rattle.export_columns.proofs.gff3_end.Kinds as gff3-end-kinds
-use Rattle.export_columns.proofs.gff3_end.Reads as gff3-end
-use Rattle.export_columns.proofs.gff3_strand.Kinds as strand-kinds
-use Rattle.export_columns.proofs.gff3_strand.Reads as strand
-use Rattle.export_columns.proofs.gff3_phase.Kinds as phase-kinds
-use Rattle.export_columns.proofs.gff3_phase.Reads as phase
-use Rattle.export_columns.proofs.gff3_score.Kinds as score-kinds
-use Rattle.export_columns.proofs.gff3_score.Reads as score
-use Rattle.export_columns.proofs.gff3_text.Kinds as text-kinds
-use Rattle.export_columns.proofs.gff3_text.Reads as text
 
 index-one : OneResult 1 index-kinds.ps index-kinds.r index.Post
 index-one κs a x y s t p q = p ∙ sym q
 
 gff3-column-one : OneResult 1 gff3-column-kinds.ps gff3-column-kinds.r gff3-column.Post
 gff3-column-one κs a x y s t p q = p ∙ sym q
-
-gff3-start-one : OneResult 1 gff3-start-kinds.ps gff3-start-kinds.r gff3-start.Post
-gff3-start-one κs a x y s t p q = p ∙ sym q
-
-gff3-end-one : OneResult 1 gff3-end-kinds.ps gff3-end-kinds.r gff3-end.Post
-gff3-end-one κs a x y s t p q = p ∙ sym q
-
-strand-one : OneResult 1 strand-kinds.ps strand-kinds.r strand.Post
-strand-one κs a x y s t p q = p ∙ sym q
-
-phase-one : OneResult 1 phase-kinds.ps phase-kinds.r phase.Post
-phase-one κs a x y s t p q = p ∙ sym q
-
-score-one : OneResult 1 score-kinds.ps score-kinds.r score.Post
-score-one κs a x y s t p q = p ∙ sym q
-
-text-one : One 2 text-kinds.ps text-kinds.r text.Post (λ κs x. x) (λ κs s. now (s .1 .1 .1 .0))
-text-one κs a x y s t p q = writes-one p q

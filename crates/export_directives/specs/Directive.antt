@@ -1,9 +1,9 @@
 -- The typed values of directives as C has them, a case at a time. Assumes nothing: these are definitions.
 use Prim.Native.Nat.{ℕ}
-use Rattle.directives.specs.declared.gff_version.Part.{Part}
-use Rattle.directives.specs.declared.gff_version.Part.the-variants as part
-use Rattle.directives.specs.declared.gff_version.VersionRead.{VersionRead}
-use Rattle.directives.specs.declared.gff_version.VersionRead.the-variants as version
+use Rattle.versions.specs.declared.Part.{Part}
+use Rattle.versions.specs.declared.Part.the-variants as part
+use Rattle.versions.specs.declared.VersionRead.{VersionRead}
+use Rattle.versions.specs.declared.VersionRead.the-variants as version
 use Rattle.directives.specs.declared.sequence_region.RegionRead.{RegionRead}
 use Rattle.directives.specs.declared.sequence_region.RegionRead.the-variants as region
 use Rattle.directives.specs.declared.genome_build.BuildRead.{BuildRead}

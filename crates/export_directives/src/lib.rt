@@ -3,12 +3,12 @@
 // Proved: each struct is the library's definition of the answer, by one definition for each enum, which gives document 01's number and
 // values for each case. Every function takes any bytes and numbers. Assumes nothing.
 use directives::BuildRead;
-use directives::Part;
 use directives::RegionRead;
-use directives::VersionRead;
+use versions::Part;
+use versions::VersionRead;
 ghost use mathlib.Core.Path.{_≡_};
 ghost use Rattle.directives.specs.GenomeBuild as build;
-ghost use Rattle.directives.specs.GffVersion as version;
+ghost use Rattle.versions.specs.GffVersion as version;
 ghost use Rattle.directives.specs.SequenceRegion as region;
 ghost use Rattle.export_directives.specs.Directive.{partsOf, versionOf, regionOf, buildOf};
 
@@ -75,7 +75,7 @@ fn parts_of(major: u32, minor: Part, patch: Part) -> Gff3VersionValue
 pub extern "C" fn gff3_version(text: &[u8]) -> Gff3VersionValue
     ensures { λ r. ⌜ r ≡ versionOf (version.versionOf (now (text .entry))) ⌝ }
 {
-    match directives::parse_gff_version(text) {
+    match versions::parse_gff_version(text) {
         VersionRead::Is(version) => {
             let minor = version.minor;
             let patch = version.patch;

@@ -1,7 +1,7 @@
 -- The answers on lines as C has them, a case at a time. Assumes nothing: these are definitions.
 use Prim.Native.Nat.{ℕ}
-use Rattle.lines.specs.declared.split.Next.{Next}
-use Rattle.lines.specs.declared.split.Next.the-variants as next
+use Rattle.splitter.specs.declared.Next.{Next}
+use Rattle.splitter.specs.declared.Next.the-variants as next
 use Rattle.lines.specs.declared.kind.Kind.{Kind}
 use Rattle.lines.specs.declared.kind.Kind.the-variants as kind
 use Rattle.lines.specs.declared.comment.CommentText.{CommentText}

@@ -4,14 +4,14 @@
 // Proved: each struct is the library's definition of the answer, by one definition for each enum, which gives document 01's number and
 // values for each case. Every function takes any bytes and numbers. Assumes nothing.
 use lines::CommentText;
-use lines::Cursor;
 use lines::DirectiveText;
 use lines::Kind;
-use lines::Next;
 use lines::ValueText;
+use splitter::Cursor;
+use splitter::Next;
 ghost use mathlib.Core.Path.{_≡_};
 ghost use Rattle.lines.specs.Kind.{kind, commentText, directiveText};
-ghost use Rattle.lines.specs.Step.{step};
+ghost use Rattle.splitter.specs.Step.{step};
 ghost use Rattle.export_lines.specs.Line.{lineOf, kindNumber, commentOf, directiveOf};
 
 #[repr(C)]
@@ -44,7 +44,7 @@ pub struct Gff3DirectiveText {
 pub extern "C" fn gff3_next_line(text: &[u8], at: usize) -> Gff3Line
     ensures { λ r. ⌜ r ≡ lineOf (step (now (text .entry)) at) ⌝ }
 {
-    match lines::next_line(text, Cursor { at }) {
+    match splitter::next_line(text, Cursor { at }) {
         Next::Line(place, cursor) => Gff3Line {
             done: 0,
             start: place.start,

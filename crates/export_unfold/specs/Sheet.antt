@@ -7,12 +7,13 @@ use lib.ListN.{length}
 use Rattle.buffer.specs.Answer.{first}
 use Rattle.tokens.specs.Tokens.{strandNumber, phaseNumber}
 use Rattle.sheet.specs.Sheet.{sheet-of}
-use Rattle.unfold.specs.declared.judging.Numbers.{Numbers}
-use Rattle.unfold.specs.declared.judging.Judged.{Judged}
-use Rattle.unfold.specs.declared.judging.Judged.the-variants as judge
+use Rattle.judging.specs.declared.judging.Numbers.{Numbers}
+use Rattle.judging.specs.declared.judging.Judged.{Judged}
+use Rattle.judging.specs.declared.judging.Judged.the-variants as judge
+use Rattle.judging.specs.Judge.{unfolded, unfold-reasons}
 use Rattle.unfold.specs.declared.lay.Unfolded.{Unfolded}
 use Rattle.unfold.specs.declared.lay.Unfolded.the-variants.{Done, Refused, NoRoom}
-use Rattle.unfold.specs.Unfold.{unfolded, unfold-reasons, unfolding-by, contents}
+use Rattle.unfold.specs.Unfold.{unfolding-by, contents}
 use Rattle.export_unfold.specs.declared.Gff3Unfolded.{Gff3Unfolded}
 
 abbrev pub refusedOf : ℕ → ℕ → Gff3Unfolded

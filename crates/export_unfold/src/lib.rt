@@ -2,11 +2,11 @@
 //
 // Proved: each struct, and the whole buffer, are the library's definitions of them, by one definition for each enum, which gives document
 // 01's number and values for each case. Every function takes any bytes. Assumes nothing.
-use unfold::Judged;
-use unfold::Numbers;
+use judging::Judged;
+use judging::Numbers;
 use unfold::Unfolded;
 ghost use mathlib.Core.Path.{_≡_};
-ghost use Rattle.unfold.specs.Unfold.{judged};
+ghost use Rattle.judging.specs.Judge.{judged};
 ghost use Rattle.export_unfold.specs.Sheet.{refusedOf, numbersOf, judgedOf, unfoldedOf, Unfolds};
 
 #[repr(C)]
@@ -62,7 +62,7 @@ fn unfolded_of(unfolded: Unfolded) -> Gff3Unfolded
 pub extern "C" fn gff3_judge(line: &[u8]) -> Gff3Unfolded
     ensures { λ r. ⌜ r ≡ judgedOf (judged (now (line .entry))) ⌝ }
 {
-    match unfold::judge(line) {
+    match judging::judge(line) {
         Judged::Is(numbers, length) => numbers_of(numbers, length),
         Judged::Refused(n) => refused_of(n as u64, 0),
     }

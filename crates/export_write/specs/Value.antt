@@ -2,9 +2,9 @@
 use Prim.Native.Nat.{ℕ}
 use mathlib.Core.Bool.{cond}
 use lib.Dec.{eqb}
-use Rattle.directives.specs.declared.gff_version.Part.{Part}
-use Rattle.directives.specs.declared.gff_version.Part.the-variants as part
-use Rattle.directives.specs.declared.gff_version.GffVersion.{GffVersion}
+use Rattle.versions.specs.declared.Part.{Part}
+use Rattle.versions.specs.declared.Part.the-variants as part
+use Rattle.versions.specs.declared.GffVersion.{GffVersion}
 use Rattle.marks.specs.declared.directive.Value as value
 use Rattle.marks.specs.declared.directive.Value.the-variants as kind
 use Rattle.export_write.specs.declared.Gff3DirectiveValue.{Gff3DirectiveValue}

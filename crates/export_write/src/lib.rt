@@ -3,9 +3,9 @@
 // Proved: each answer, and the whole buffer, are the library's definitions of them. Every function takes any bytes and numbers. Assumes
 // nothing.
 use answers::Gff3Written;
-use directives::GffVersion;
-use directives::Part;
 use marks::Value;
+use versions::GffVersion;
+use versions::Part;
 ghost use mathlib.Core.Path.{_≡_};
 ghost use Rattle.measure.specs.Record.{record-reasons, record-line};
 ghost use Rattle.comments.specs.Comment.{comment-reasons, comment-line};

@@ -12,7 +12,7 @@ use lib.Seq.{take-at, take-all, drop-append-add}
 use borrow.Author.Tests.{eq-eqb, ne-eqb}
 use Rattle.lists.specs.Bytes.{Every}
 use Rattle.scan.specs.Find.{index, seek}
-use Rattle.scan.specs.Word.{isSpace, space}
+use Rattle.words.specs.Word.{isSpace, space}
 use Rattle.scan.proofs.FindLaws.{index-append}
 use Rattle.lines.specs.declared.kind.Kind.the-variants.{Directive, Comment, Record}
 use Rattle.lines.specs.Kind.{kind, commentText, directiveText, valueOf}

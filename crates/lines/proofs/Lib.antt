@@ -1,5 +1,3 @@
 pub mod KindLaws
-pub mod LinesLaws
-pub mod StepLaws
 mod Samples
 mod Unique

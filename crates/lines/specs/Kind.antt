@@ -6,7 +6,7 @@ use mathlib.Core.Bool.{Bool, true, false, cond}
 use mathlib.Core.List.{List, [], _∷_}
 use lib.Dec.{eqb}
 use lib.ListN.{length}
-use Rattle.scan.specs.Word.{space}
+use Rattle.words.specs.Word.{space}
 use Rattle.lines.specs.declared.kind.Kind.{Kind}
 use Rattle.lines.specs.declared.kind.Kind.the-variants.{Directive, Comment, Record}
 use Rattle.lines.specs.declared.comment.CommentText.{CommentText}

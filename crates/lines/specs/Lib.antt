@@ -1,4 +1,2 @@
 pub mod Kind
-pub mod Lines
 pub mod Reading
-pub mod Step

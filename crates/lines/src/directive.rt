@@ -4,7 +4,7 @@ use scan::Place;
 ghost use mathlib.Core.Path.{_≡_};
 ghost use Prim.Native.Nat.{_≤_};
 ghost use lib.ListN.{length};
-ghost use Rattle.scan.specs.Word.{space};
+ghost use Rattle.words.specs.Word.{space};
 ghost use Rattle.lines.specs.Kind.{valueOf, directiveText};
 
 pub enum ValueText {
@@ -42,7 +42,7 @@ pub fn directive_of(line: &[u8]) -> DirectiveText
 {
     match super::kind::kind_of(line) {
         Kind::Directive => {
-            let k = scan::find_space(line, 2);
+            let k = words::find_space(line, 2);
             DirectiveText::Is(Place { start: 2, end: k }, value(line, k))
         }
         Kind::Comment => DirectiveText::NotOne,

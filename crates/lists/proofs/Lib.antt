@@ -1,4 +1,5 @@
 pub mod BoolLaws
+pub mod CursorLaws
 pub mod EveryLaws
 pub mod One
 pub mod OrderLaws

@@ -7,7 +7,7 @@ use lib.ListN.{length}
 use borrow.Author.Tests.{ltb-false}
 use Rattle.lists.specs.Bytes.{Every}
 use Rattle.lists.proofs.BoolLaws.{or-left, or-right}
-use Rattle.scan.specs.Word.{isSpace}
+use Rattle.words.specs.Word.{isSpace}
 use Rattle.buffer.specs.Answer.{first}
 use Rattle.buffer.proofs.AnswerLaws.{none-holds}
 use Rattle.texts.specs.Text.{holds, long}

@@ -12,20 +12,20 @@ use borrow.Author.Tests.{eqb-false}
 use Rattle.lists.specs.Bytes.{Every, Lacks}
 use Rattle.lists.proofs.EveryLaws.{every-append}
 use Rattle.lists.proofs.BoolLaws.{or-left, or-right}
-use Rattle.scan.specs.Word.{isSpace}
-use Rattle.numbers.specs.Decimal.{decimal}
+use Rattle.words.specs.Word.{isSpace}
+use Rattle.decimals.specs.Decimal.{decimal}
 use Rattle.numbers.specs.Number.{isDigit, most32}
-use Rattle.numbers.proofs.DecimalLaws.{decimal-lacks}
+use Rattle.decimals.proofs.DecimalLaws.{decimal-lacks}
 use Rattle.buffer.specs.Answer.{first}
 use Rattle.lines.specs.declared.kind.Kind.the-variants.{Directive}
 use Rattle.lines.specs.Kind.{kind}
-use Rattle.lines.specs.Lines.{OneLine}
+use Rattle.splitter.specs.Lines.{OneLine}
 use Rattle.lines.specs.Reading.{ReadsDirective}
 use Rattle.lines.proofs.KindLaws.{kind-directive, directive-reads, directive-reads-alone}
-use Rattle.directives.specs.declared.gff_version.Part.{Part}
-use Rattle.directives.specs.declared.gff_version.Part.the-variants as part
-use Rattle.directives.specs.GffVersion.{version, versionOf}
-use Rattle.directives.proofs.VersionLaws.{version-major, version-minor, version-patch}
+use Rattle.versions.specs.declared.Part.{Part}
+use Rattle.versions.specs.declared.Part.the-variants as part
+use Rattle.versions.specs.GffVersion.{version, versionOf}
+use Rattle.versions.proofs.VersionLaws.{version-major, version-minor, version-patch}
 use Rattle.directives.proofs.RegionLaws.{region-reads}
 use Rattle.directives.proofs.BuildLaws.{build-reads}
 use Rattle.texts.specs.Text.{breaks, unfit}

@@ -2,7 +2,7 @@
 use Prim.Native.Nat.{ℕ}
 use mathlib.Core.Bool.{false, not, _||_}
 use mathlib.Core.List.{List, [], _∷_, _++_}
-use Rattle.scan.specs.Same.{same}
+use Rattle.words.specs.Same.{same}
 use Rattle.buffer.specs.Answer.{Reason}
 use Rattle.texts.specs.Text.{long, unfit}
 use Rattle.marks.specs.Judge.{reasons}

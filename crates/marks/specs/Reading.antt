@@ -7,11 +7,11 @@ use mathlib.Core.List.{List}
 use lib.ListN.{length}
 use Rattle.scan.specs.Part.{textAt}
 use Rattle.numbers.specs.Number.{most32, most64}
-use Rattle.directives.specs.declared.gff_version.Part.{Part}
-use Rattle.directives.specs.declared.gff_version.Part.the-variants as part
+use Rattle.versions.specs.declared.Part.{Part}
+use Rattle.versions.specs.declared.Part.the-variants as part
 use Rattle.directives.specs.declared.sequence_region.RegionRead.the-variants as region
 use Rattle.directives.specs.declared.genome_build.BuildRead.the-variants as build
-use Rattle.directives.specs.GffVersion.{version, versionOf}
+use Rattle.versions.specs.GffVersion.{version, versionOf}
 use Rattle.directives.specs.SequenceRegion.{regionOf}
 use Rattle.directives.specs.GenomeBuild.{buildOf}
 use Rattle.marks.specs.declared.directive.Value.{Value}

@@ -3,12 +3,12 @@
 use Prim.Native.Nat.{ℕ}
 use mathlib.Core.Bool.{Bool, true, false, not, _&&_}
 use mathlib.Core.List.{List, [], _∷_, _++_}
-use Rattle.scan.specs.Same.{same}
+use Rattle.words.specs.Same.{same}
 use Rattle.buffer.specs.Answer.{Reason}
-use Rattle.numbers.specs.Decimal.{decimal}
-use Rattle.directives.specs.declared.gff_version.GffVersion.{GffVersion}
-use Rattle.directives.specs.declared.gff_version.Part.{Part}
-use Rattle.directives.specs.declared.gff_version.Part.the-variants.{Is, Absent}
+use Rattle.decimals.specs.Decimal.{decimal}
+use Rattle.versions.specs.declared.GffVersion.{GffVersion}
+use Rattle.versions.specs.declared.Part.{Part}
+use Rattle.versions.specs.declared.Part.the-variants.{Is, Absent}
 use Rattle.marks.specs.Judge.{reasons}
 
 -- `gff-version`

@@ -1,6 +1,6 @@
 // A directive: `##`, the key, and a space and the value where there is one.
 use buffer::Written;
-use directives::GffVersion;
+use versions::GffVersion;
 ghost use mathlib.Core.Path.{_≡_};
 ghost use Prim.Native.Nat.{_≤_};
 ghost use lib.ListN.{length};

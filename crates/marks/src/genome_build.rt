@@ -9,7 +9,7 @@ ghost use Rattle.marks.specs.GenomeBuild.{build-reasons, build-tail};
 pub(crate) fn build_refusal(key: &[u8], source: &[u8], name: &[u8]) -> u32
     ensures { λ r. ⌜ r ≡ first (build-reasons (now (key .entry)) (now (source .entry)) (now (name .entry))) ⌝ }
 {
-    let own = scan::is_same(key, b"genome-build");
+    let own = words::is_same(key, b"genome-build");
     let long = texts::is_long(source) | texts::is_long(name);
     let unfit = texts::is_unfit(source) | texts::is_unfit(name);
     super::judge::refusal(key, long, !own, unfit, false, false)

@@ -1,6 +1,6 @@
 // The value of `gff-version`: major, and minor and patch if they are there, with `.` between them.
-use directives::GffVersion;
-use directives::Part;
+use versions::GffVersion;
+use versions::Part;
 ghost use mathlib.Core.Path.{_≡_};
 ghost use Prim.Native.Nat.{_≤_};
 ghost use lib.ListN.{length};
@@ -20,7 +20,7 @@ fn is_absent(part: Part) -> bool
 pub(crate) fn version_refusal(key: &[u8], version: GffVersion) -> u32
     ensures { λ r. ⌜ r ≡ first (version-reasons (now (key .entry)) version) ⌝ }
 {
-    let own = scan::is_same(key, b"gff-version");
+    let own = words::is_same(key, b"gff-version");
     let minor = version.minor;
     let patch = version.patch;
     let alone = is_absent(minor) & !is_absent(patch);
@@ -31,7 +31,7 @@ fn dotted_len(part: Part) -> usize
     ensures { λ r. ⌜ (r ≡ length (dotted part)) × (r ≤ 21) ⌝ }
 {
     match part {
-        Part::Is(n) => 1 + numbers::decimal_len(n as u64),
+        Part::Is(n) => 1 + decimals::decimal_len(n as u64),
         Part::Absent => 0,
     }
 }
@@ -40,7 +40,7 @@ fn dotted_len(part: Part) -> usize
 pub(crate) fn version_len(version: GffVersion) -> usize
     ensures { λ r. ⌜ (r ≡ length (version-tail version)) × (r ≤ 63) ⌝ }
 {
-    let major = 1 + numbers::decimal_len(version.major as u64);
+    let major = 1 + decimals::decimal_len(version.major as u64);
     let minor = version.minor;
     let patch = version.patch;
     major + dotted_len(minor) + dotted_len(patch)
@@ -52,7 +52,7 @@ fn lay_dotted(part: Part, out: &mut [u8], at: usize) -> usize
     match part {
         Part::Is(n) => {
             let from = buffer::lay_byte(b'.', out, at);
-            numbers::lay_decimal(n as u64, out, from)
+            decimals::lay_decimal(n as u64, out, from)
         }
         Part::Absent => buffer::least(at, out.len()),
     }

@@ -9,7 +9,7 @@ ghost use Rattle.marks.specs.Region.{region-reasons, region-tail};
 pub(crate) fn region_refusal(key: &[u8], name: &[u8], start: u64, end: u64) -> u32
     ensures { λ r. ⌜ r ≡ first (region-reasons (now (key .entry)) (now (name .entry)) start end) ⌝ }
 {
-    let own = scan::is_same(key, b"sequence-region");
+    let own = words::is_same(key, b"sequence-region");
     let long = texts::is_long(name);
     let unfit = texts::is_unfit(name);
     super::judge::refusal(key, long, !own, unfit, false, (start == 0) | (end == 0))
@@ -20,7 +20,7 @@ pub(crate) fn region_len(name: &[u8], start: u64, end: u64) -> usize
     requires { ⌜ length (now name) ≤ 1048576 ⌝ }
     ensures { λ r. ⌜ (r ≡ length (region-tail (now (name .entry)) start end)) × (r ≤ 1048700) ⌝ }
 {
-    3 + name.len() + numbers::decimal_len(start) + numbers::decimal_len(end)
+    3 + name.len() + decimals::decimal_len(start) + decimals::decimal_len(end)
 }
 
 pub(crate) fn lay_region(name: &[u8], start: u64, end: u64, out: &mut [u8], at: usize) -> usize

@@ -7,7 +7,7 @@ use mathlib.Core.Bool.{Bool}
 use mathlib.Core.List.{List, [], _∷_, _++_, map}
 use lib.ListN.{length}
 use Rattle.percent.specs.Percent.{encoded}
-use Rattle.attributes.specs.Pieces.{prefixed, joined}
+use Rattle.values.specs.Pieces.{prefixed, joined}
 use Rattle.attributes.specs.Attributes.{Attribute}
 use Rattle.attributes.specs.Written.{raw, written, column}
 use Rattle.measure.specs.Led.{led}

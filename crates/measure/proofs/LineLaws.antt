@@ -6,10 +6,10 @@ use mathlib.Core.Option.{some}
 use mathlib.Core.List.{List, _∷_}
 use lib.Dec.{eqb}
 use lib.ListN.{length, drop, length-append}
-use Rattle.numbers.specs.Decimal.{decimal}
-use Rattle.percent.specs.declared.set.Set.the-variants.{Name, Column, Attribute}
+use Rattle.decimals.specs.Decimal.{decimal}
+use Rattle.sets.specs.declared.Set.the-variants.{Name, Column, Attribute}
 use Rattle.percent.specs.Percent.{encoded}
-use Rattle.percent.specs.Sets.{escapes}
+use Rattle.sets.specs.Sets.{escapes}
 use Rattle.attributes.specs.Attributes as column9
 use Rattle.attributes.specs.Written.{column}
 use Rattle.sheet.specs.Reader.{counted}

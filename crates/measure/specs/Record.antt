@@ -1,18 +1,19 @@
 -- A record as it is written, document 01, "Writing", "The field sheet" and "Refusal numbers". Assumes nothing: these are definitions.
 use Prim.Native.Nat.{ℕ, zero, suc}
-use mathlib.Core.Bool.{Bool, false, cond, not, _&&_, _||_}
-use mathlib.Core.List.{List, [], _∷_, _++_}
+use mathlib.Core.Bool.{Bool, false, not, _&&_, _||_}
+use mathlib.Core.List.{List, [], _∷_}
 use mathlib.Core.Option.{Option, none, some}
 use lib.Dec.{eqb, ltb}
 use lib.ListN.{length}
-use Rattle.scan.specs.Same.{same}
+use Rattle.words.specs.Same.{same}
 use Rattle.buffer.specs.Answer.{Reason, _when_, first}
-use Rattle.numbers.specs.Decimal.{decimal}
-use Rattle.percent.specs.declared.set.Set.the-variants.{Name, Column, Attribute}
+use Rattle.decimals.specs.Decimal.{decimal}
+use Rattle.sets.specs.declared.Set.the-variants.{Name, Column, Attribute}
 use Rattle.percent.specs.Percent.{encoded}
-use Rattle.percent.specs.Sets.{escapes}
+use Rattle.sets.specs.Sets.{escapes}
 use Rattle.attributes.specs.Written.{column}
-use Rattle.tokens.specs.Score.{isScore}
+use Rattle.tokens.specs.Tokens.{strandByteOf, phaseByteOf}
+use Rattle.scores.specs.Score.{isScore}
 use Rattle.columns.specs.Columns.{rowOf}
 use Rattle.sheet.specs.Sheet.{Sheet, sheet-read, isSome}
 use Rattle.measure.specs.declared.judging.Judged.{Judged}
@@ -49,14 +50,6 @@ record-reasons sheet start end strand phase =
     ∷ []
 
 -- ── the line ──
-
--- strand 0 to 3 for `.` `+` `-` `?`
-abbrev pub strandByteOf : ℕ → ℕ
-strandByteOf n = cond (eqb n 0) 46 (cond (eqb n 1) 43 (cond (eqb n 2) 45 63))
-
--- phase 0 to 2 as digits, and `.` for none
-abbrev pub phaseByteOf : ℕ → ℕ
-phaseByteOf n = cond (eqb n 0) 48 (cond (eqb n 1) 49 (cond (eqb n 2) 50 46))
 
 -- the score, or `.`
 unfoldable pub scoreOf : List ℕ → List ℕ

@@ -1,6 +1,6 @@
 // How long a record's line is: measured text by text, in the sheet's order, before the first byte is laid.
 use super::Spot;
-use percent::Set;
+use sets::Set;
 use sheet::CountRead;
 use sheet::SectionRead;
 ghost use mathlib.Core.Path.{_≡_};
@@ -9,9 +9,9 @@ ghost use mathlib.Core.Option.{some};
 ghost use Prim.Native.Nat.{ℕ, _+_, _*_, _≤_};
 ghost use lib.Dec.{eqb};
 ghost use lib.ListN.{length, drop};
-ghost use Rattle.percent.specs.declared.set.Set.the-variants.{Attribute};
+ghost use Rattle.sets.specs.declared.Set.the-variants.{Attribute};
 ghost use Rattle.percent.specs.Percent.{encoded};
-ghost use Rattle.percent.specs.Sets.{escapes};
+ghost use Rattle.sets.specs.Sets.{escapes};
 ghost use Rattle.attributes.specs.Written.{written, column};
 ghost use Rattle.sheet.specs.Reader.{times, counted};
 ghost use Rattle.sheet.specs.Sheet.{Sheet, section, read-attribute, sheet-read, isSome};
@@ -30,7 +30,7 @@ fn text_len(set: Set, sheet: &[u8], from: usize, n: usize) -> Spot
             let text = scan::text(sheet, place);
             Spot {
                 from: place.end,
-                to: n + text.len() + 2 * percent::count_escaped(set, text),
+                to: n + text.len() + 2 * encoding::count_escaped(set, text),
             }
         }
         SectionRead::Malformed => Spot {
@@ -158,7 +158,7 @@ pub(crate) fn line_len(sheet: &[u8], start: u64, end: u64) -> Spot
     ensures form { λ r. ⌜ eqb (r .from) (length (now (sheet .entry))) ≡ isSome (sheet-read (now (sheet .entry))) ⌝ }
     ensures long { λ r. ⌜ ((s : Sheet) (strand phase : ℕ) → sheet-read (now (sheet .entry)) ≡ some s → r .to ≡ length (record-line (now (sheet .entry)) start end strand phase)) ⌝ }
 {
-    let digits = numbers::decimal_len(start) + numbers::decimal_len(end);
+    let digits = decimals::decimal_len(start) + decimals::decimal_len(end);
     let name = text_len(Set::Name, sheet, 0, 6 + digits);
     let source = text_len(Set::Column, sheet, name.from, name.to + 1);
     let kind = text_len(Set::Column, sheet, source.from, source.to + 1);

@@ -30,7 +30,7 @@ fn section(sheet: &[u8], at: usize) -> Place
 fn is_bad(score: &[u8]) -> bool
     ensures { λ r. ⌜ r ≡ bad (now (score .entry)) ⌝ }
 {
-    !((score.len() == 0) | tokens::is_score(score))
+    !((score.len() == 0) | scores::is_score(score))
 }
 
 // The first of the reasons that were found, or 0: from the last to the first.
@@ -52,7 +52,7 @@ pub(crate) fn field_refusal(sheet: &[u8], start: u64, end: u64, strand: u32, pha
     let source = section(sheet, name.end);
     let kind = section(sheet, source.end);
     let score = section(sheet, kind.end);
-    let coding = scan::is_same(scan::text(sheet, kind), b"CDS");
+    let coding = words::is_same(scan::text(sheet, kind), b"CDS");
     let bad = is_bad(scan::text(sheet, score));
     first_found((start == 0) | (end == 0), bad, strand, phase, coding)
 }

@@ -1,4 +1,3 @@
-pub mod DecimalLaws
 pub mod NumberLaws
 mod Samples
 mod Unique

@@ -3,7 +3,6 @@ use mathlib.Core.Path.{_≡_, refl}
 use mathlib.Core.List.{List, [], _∷_}
 use Prim.Native.Nat.{ℕ}
 use Rattle.numbers.specs.declared.read.Number.the-variants.{Value, Invalid}
-use Rattle.numbers.specs.Decimal.{digits, decimal}
 use Rattle.numbers.specs.Number.{allDigits, someDigits, value-after, numeral, sansPlus, position, regionPosition, versionPart}
 
 -- 1844674407370955161 and a last digit; 429496729 and a last digit
@@ -22,7 +21,5 @@ samples :
     × (regionPosition (43 ∷ 56 ∷ []) ≡ Value 8) × (regionPosition (48 ∷ []) ≡ Invalid) × (regionPosition (45 ∷ 48 ∷ []) ≡ Invalid) × (regionPosition (43 ∷ []) ≡ Invalid)
     -- 4294967295 and one more, 0
     × (versionPart (wide 53) ≡ Value 4294967295) × (versionPart (wide 54) ≡ Invalid) × (versionPart (48 ∷ []) ≡ Value 0)
-    -- written
-    × (decimal 18446744073709551615 ≡ large 53) × (decimal 0 ≡ 48 ∷ [])
-unfolding digits allDigits someDigits value-after numeral sansPlus
-samples = (refl, refl, refl, refl, refl, refl, refl, refl, refl, refl, refl, refl, refl, refl, refl)
+unfolding allDigits someDigits value-after numeral sansPlus
+samples = (refl, refl, refl, refl, refl, refl, refl, refl, refl, refl, refl, refl, refl)

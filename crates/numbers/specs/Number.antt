@@ -57,3 +57,8 @@ regionPosition s = numeral 1 most64 (sansPlus s)
 -- a part of a version: `+` is allowed, 32 bits
 abbrev pub versionPart : List ℕ → Number
 versionPart s = numeral 0 most32 (sansPlus s)
+
+-- what comes of a number; refused where it is not valid
+abbrev pub numberThen : {A : Type 0} → A → Number → (ℕ → A) → A
+numberThen refused (Value n) f = f n
+numberThen refused Invalid f = refused

@@ -1,6 +1,2 @@
-mod Samples
-pub mod CursorLaws
 pub mod PercentLaws
-mod PlainLaws
-pub mod SetLaws
-mod Unique
+mod Samples

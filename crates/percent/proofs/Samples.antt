@@ -2,9 +2,7 @@
 use Prim.Native.Nat.{ℕ}
 use mathlib.Core.Path.{_≡_, refl}
 use mathlib.Core.List.{List, [], _∷_}
-use Rattle.percent.specs.declared.set.Set.the-variants.{Name, Column, Attribute}
-use Rattle.percent.specs.Percent.{isHex, hexValue, hexDigit, decoded, escape, piece, encoded}
-use Rattle.percent.specs.Sets.{escapes}
+use Rattle.percent.specs.Percent.{isHex, hexValue, decoded}
 
 -- `%2541` decodes to `%41`, `%%41` to `%A`, and `%4` stays; `%2f` and `%2F` are one byte (section 2.1); `A%20B` (section 2.4 decodes once)
 decodes :
@@ -15,13 +13,3 @@ decodes :
     × (decoded (37 ∷ 50 ∷ 70 ∷ []) ≡ 47 ∷ [])
 unfolding isHex hexValue decoded
 decodes = (refl, refl, refl, refl, refl)
-
--- a space, a semicolon and a tab in each set
-encodes :
-    (encoded (escapes Name) (32 ∷ []) ≡ 37 ∷ 50 ∷ 48 ∷ [])
-    × (encoded (escapes Column) (32 ∷ []) ≡ 32 ∷ [])
-    × (encoded (escapes Column) (59 ∷ []) ≡ 59 ∷ [])
-    × (encoded (escapes Attribute) (59 ∷ []) ≡ 37 ∷ 51 ∷ 66 ∷ [])
-    × (encoded (escapes Column) (9 ∷ []) ≡ 37 ∷ 48 ∷ 57 ∷ [])
-unfolding escapes hexDigit escape piece encoded
-encodes = (refl, refl, refl, refl, refl)

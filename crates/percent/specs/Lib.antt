@@ -1,3 +1,1 @@
 pub mod Percent
-pub mod Sets
-pub mod Unit

@@ -5,10 +5,10 @@ use mathlib.Core.Path.{_≡_}
 use mathlib.Core.Option.{some}
 use mathlib.Core.List.{List, [], _∷_, _++_, append-assoc}
 use lib.ListN.{length, drop, length-append}
-use Rattle.numbers.specs.Decimal.{decimal}
-use Rattle.percent.specs.declared.set.Set.the-variants.{Name, Column, Attribute}
+use Rattle.decimals.specs.Decimal.{decimal}
+use Rattle.sets.specs.declared.Set.the-variants.{Name, Column, Attribute}
 use Rattle.percent.specs.Percent.{encoded}
-use Rattle.percent.specs.Sets.{escapes}
+use Rattle.sets.specs.Sets.{escapes}
 use Rattle.attributes.specs.Written.{column}
 use Rattle.buffer.specs.Laid.{Lays}
 use Rattle.buffer.proofs.LaidLaws.{lays-then}
@@ -16,7 +16,8 @@ use Rattle.sheet.specs.Reader.{counted}
 use Rattle.sheet.specs.Sheet.{Sheet, section, read-attribute, sheet-read}
 use Rattle.sheet.specs.Past.{Passes}
 use Rattle.sheet.proofs.PastLaws.{past-sheet, past-whole}
-use Rattle.measure.specs.Record.{strandByteOf, phaseByteOf, scoreOf, columns, line-of, record-line}
+use Rattle.tokens.specs.Tokens.{strandByteOf, phaseByteOf}
+use Rattle.measure.specs.Record.{scoreOf, columns, line-of, record-line}
 
 -- ── of a sheet ────────────────────────────────────────────────────────────────────────────────
 

@@ -1,6 +1,6 @@
 // A record's line, laid over a lent buffer text by text, in the sheet's order.
 use super::Spot;
-use percent::Set;
+use sets::Set;
 use sheet::CountRead;
 use sheet::SectionRead;
 ghost use mathlib.Core.Path.{_≡_};
@@ -9,16 +9,17 @@ ghost use mathlib.Core.Option.{some};
 ghost use Prim.Native.Nat.{_≤_};
 ghost use lib.ListN.{length, drop};
 ghost use Rattle.buffer.specs.Laid.{Lays};
-ghost use Rattle.numbers.specs.Decimal.{decimal};
-ghost use Rattle.percent.specs.declared.set.Set.the-variants.{Attribute};
+ghost use Rattle.decimals.specs.Decimal.{decimal};
+ghost use Rattle.sets.specs.declared.Set.the-variants.{Attribute};
 ghost use Rattle.percent.specs.Percent.{encoded};
-ghost use Rattle.percent.specs.Sets.{escapes};
+ghost use Rattle.sets.specs.Sets.{escapes};
+ghost use Rattle.tokens.specs.Tokens.{strandByteOf, phaseByteOf};
 ghost use Rattle.attributes.specs.Written.{written, column};
 ghost use Rattle.sheet.specs.Reader.{times, counted};
 ghost use Rattle.sheet.specs.Sheet.{Sheet, section, read-attribute, sheet-read};
 ghost use Rattle.sheet.specs.Past.{Passes};
 ghost use Rattle.measure.specs.Led.{led};
-ghost use Rattle.measure.specs.Record.{strandByteOf, phaseByteOf, scoreOf, record-line};
+ghost use Rattle.measure.specs.Record.{scoreOf, record-line};
 
 // The section at `from`, encoded.
 fn lay_text(set: Set, sheet: &[u8], from: usize, out: &mut [u8], at: usize) -> Spot
@@ -26,7 +27,7 @@ fn lay_text(set: Set, sheet: &[u8], from: usize, out: &mut [u8], at: usize) -> S
 {
     match sheet::section_at(sheet, from) {
         SectionRead::At(place) => {
-            let to = percent::lay_encoded(set, scan::text(sheet, place), out, at);
+            let to = encoding::lay_encoded(set, scan::text(sheet, place), out, at);
             Spot {
                 from: place.end,
                 to,
@@ -138,9 +139,9 @@ fn lay_positions(start: u64, end: u64, out: &mut [u8], at: usize) -> usize
     ensures { λ r. ⌜ Lays ((9 ∷ decimal start) ++ (9 ∷ decimal end)) (now (out .entry)) at (now (out .exit)) r ⌝ }
 {
     let first = buffer::lay_byte(b'\t', out, at);
-    let tab = numbers::lay_decimal(start, out, first);
+    let tab = decimals::lay_decimal(start, out, first);
     let second = buffer::lay_byte(b'\t', out, tab);
-    numbers::lay_decimal(end, out, second)
+    decimals::lay_decimal(end, out, second)
 }
 
 // The score, or `.` where there is none.
@@ -177,9 +178,9 @@ fn lay_signs(strand: u32, phase: u32, out: &mut [u8], at: usize) -> usize
     ensures { λ r. ⌜ Lays ((9 ∷ strandByteOf strand ∷ []) ++ (9 ∷ phaseByteOf phase ∷ [])) (now (out .entry)) at (now (out .exit)) r ⌝ }
 {
     let first = buffer::lay_byte(b'\t', out, at);
-    let tab = buffer::lay_byte(super::byte::strand_byte(strand), out, first);
+    let tab = buffer::lay_byte(tokens::strand_byte(strand), out, first);
     let second = buffer::lay_byte(b'\t', out, tab);
-    buffer::lay_byte(super::byte::phase_byte(phase), out, second)
+    buffer::lay_byte(tokens::phase_byte(phase), out, second)
 }
 
 // The nine columns.

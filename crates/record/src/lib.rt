@@ -3,7 +3,6 @@
 // Proved: the answer and the whole buffer are those that the definitions of `measure` give, refusals in document 01's order; a refused
 // record changes no byte. The record is judged and measured before its first byte is laid; each byte of the sheet is read a fixed number of
 // times. Assumes nothing.
-mod byte;
 mod lay;
 mod write;
 

@@ -1,17 +1,17 @@
 // Cases of records: bounds, fields and column 9.
 use super::show;
-use attributes::Found;
-use attributes::NextValue;
 use attributes::Step;
-use attributes::ValueCursor;
 use columns::Bounds;
 use columns::Column;
 use columns::ColumnRead;
 use columns::Indexed;
-use columns::ScoreRead;
+use fields::ScoreRead;
+use lookup::Found;
 use tokens::PhaseRead;
 use tokens::PositionRead;
 use tokens::StrandRead;
+use values::NextValue;
+use values::ValueCursor;
 
 fn eight(b: Bounds) {
     show::number(b.reference_sequence_name_end as u64);
@@ -73,21 +73,21 @@ fn texts(s: &[u8], b: Bounds) {
     let mut name = [170u8; 16];
     let mut source = [170u8; 16];
     let mut ty = [170u8; 16];
-    let first = columns::reference_sequence_name(s, b, &mut name);
+    let first = fields::reference_sequence_name(s, b, &mut name);
     show::written(first, &name);
-    let second = columns::source(s, b, &mut source);
+    let second = fields::source(s, b, &mut source);
     show::written(second, &source);
-    let third = columns::ty(s, b, &mut ty);
+    let third = fields::ty(s, b, &mut ty);
     show::written(third, &ty)
 }
 
 fn fields(s: &[u8], b: Bounds) {
     texts(s, b);
-    position(columns::start_at(s, b));
-    position(columns::end_at(s, b));
-    score(s, columns::score_at(s, b));
-    strand(columns::strand_at(s, b));
-    phase(columns::phase_at(s, b));
+    position(fields::start_at(s, b));
+    position(fields::end_at(s, b));
+    score(s, fields::score_at(s, b));
+    strand(fields::strand_at(s, b));
+    phase(fields::phase_at(s, b));
     raw(s, columns::column_at(s, b, Column::Attributes))
 }
 
@@ -120,16 +120,16 @@ pub(crate) fn walk(column: &[u8]) {
 // One value, decoded.
 fn decoded(value: &[u8]) {
     let mut room = [170u8; 16];
-    let answer = percent::decode(value, &mut room);
+    let answer = decoding::decode(value, &mut room);
     show::written(answer, &room)
 }
 
 // V VALUE: each value, decoded, and a dot
-pub(crate) fn values(value: &[u8]) {
+pub(crate) fn values_of(value: &[u8]) {
     let mut cursor = ValueCursor::new();
     let mut left: u32 = 513;
     while 0 < left {
-        match attributes::next_value(value, cursor) {
+        match values::next_value(value, cursor) {
             NextValue::Is(place, next) => {
                 decoded(scan::text(value, place));
                 cursor = next;
@@ -141,9 +141,9 @@ pub(crate) fn values(value: &[u8]) {
 }
 
 // T COLUMN TAG: the raw value of a tag, and what the lookup with the fallback `?` answers
-pub(crate) fn lookup<'a>(column: &'a [u8], tag: &'a [u8]) {
-    found(column, attributes::find_tag(column, tag));
-    show::hex(attributes::value_or(column, tag, b"?"))
+pub(crate) fn lookup_of<'a>(column: &'a [u8], tag: &'a [u8]) {
+    found(column, lookup::find_tag(column, tag));
+    show::hex(lookup::value_or(column, tag, b"?"))
 }
 
 fn found(column: &[u8], answer: Found) {

@@ -2,11 +2,11 @@
 use super::show;
 use directives::BuildRead;
 use directives::GenomeBuild;
-use directives::GffVersion;
-use directives::Part;
 use directives::RegionRead;
 use directives::SequenceRegion;
-use directives::VersionRead;
+use versions::GffVersion;
+use versions::Part;
+use versions::VersionRead;
 
 fn part(answer: Part) {
     match answer {
@@ -25,7 +25,7 @@ fn parts(v: GffVersion) {
 
 // 1 TEXT: major, minor, patch
 pub(crate) fn version(text: &[u8]) {
-    match directives::parse_gff_version(text) {
+    match versions::parse_gff_version(text) {
         VersionRead::Is(v) => parts(v),
         VersionRead::Refused(n) => show::refused(n),
     }

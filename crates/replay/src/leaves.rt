@@ -1,23 +1,23 @@
 // Cases of finding, numbers and percent coding.
+use super::case;
 use super::show;
-use super::words;
 use numbers::Number;
-use percent::Set;
+use sets::Set;
 
 // The largest buffer that a case lends.
 const ROOM: usize = 512;
 
 // f TEXT AT BYTE
 pub(crate) fn find(line: &[u8], text: &[u8]) {
-    let from = words::number(line, 2) as usize;
-    let b = (words::number(line, 3) % 256) as u8;
+    let from = case::number(line, 2) as usize;
+    let b = (case::number(line, 3) % 256) as u8;
     show::number(scan::find(text, from, b) as u64)
 }
 
 // w TEXT AT: where the next word starts and ends
 pub(crate) fn word(line: &[u8], text: &[u8]) {
-    let from = words::number(line, 2) as usize;
-    let place = scan::next_word(text, from);
+    let from = case::number(line, 2) as usize;
+    let place = words::next_word(text, from);
     show::number(place.start as u64);
     show::number(place.end as u64)
 }
@@ -47,16 +47,16 @@ pub(crate) fn version_part(text: &[u8]) {
 // n NUMBER ROOM
 pub(crate) fn decimal(line: &[u8]) {
     let mut room = [170u8; ROOM];
-    let size = words::number(line, 2) as usize;
-    let answer = numbers::write_decimal(words::number(line, 1), words::front(&mut room, size));
+    let size = case::number(line, 2) as usize;
+    let answer = decimals::write_decimal(case::number(line, 1), case::front(&mut room, size));
     show::written(answer, scan::part(&room, 0, size))
 }
 
 // d TEXT ROOM
 pub(crate) fn decode(line: &[u8], text: &[u8]) {
     let mut room = [170u8; ROOM];
-    let size = words::number(line, 2) as usize;
-    let answer = percent::decode(text, words::front(&mut room, size));
+    let size = case::number(line, 2) as usize;
+    let answer = decoding::decode(text, case::front(&mut room, size));
     show::written(answer, scan::part(&room, 0, size))
 }
 
@@ -72,11 +72,11 @@ fn set(n: u64) -> Set {
 // e TEXT ROOM SET
 pub(crate) fn encode(line: &[u8], text: &[u8]) {
     let mut room = [170u8; ROOM];
-    let size = words::number(line, 2) as usize;
-    let answer = percent::encode(
-        set(words::number(line, 3)),
+    let size = case::number(line, 2) as usize;
+    let answer = encoding::encode(
+        set(case::number(line, 3)),
         text,
-        words::front(&mut room, size),
+        case::front(&mut room, size),
     );
     show::written(answer, scan::part(&room, 0, size))
 }

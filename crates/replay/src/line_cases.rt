@@ -1,17 +1,17 @@
 // Cases of lines: splitting, kind, comment and directive.
 use super::show;
 use lines::CommentText;
-use lines::Cursor;
 use lines::DirectiveText;
 use lines::Kind;
-use lines::Next;
 use lines::ValueText;
+use splitter::Cursor;
+use splitter::Next;
 
 // L TEXT: each line, and a dot
 pub(crate) fn lines_of(text: &[u8]) {
     let mut cursor = Cursor::new();
     loop {
-        match lines::next_line(text, cursor) {
+        match splitter::next_line(text, cursor) {
             Next::Line(place, next) => {
                 show::text(text, place);
                 cursor = next;

@@ -3,17 +3,17 @@
 //
 // A case is a letter and its words: numbers in decimal, texts in hex, `-` for the empty text. A buffer that a call writes is filled with
 // 0xAA first and shown whole, so that the bytes that are not to be touched are seen.
+mod case;
 mod columns_cases;
 mod directive_cases;
 mod leaves;
 mod line_cases;
 mod show;
-mod words;
 mod writing_cases;
 
-use lines::Cursor;
-use lines::Next;
-use words::Case;
+use case::Case;
+use splitter::Cursor;
+use splitter::Next;
 
 // A comment of the list is its own answer.
 fn comment(line: &[u8]) {
@@ -22,7 +22,7 @@ fn comment(line: &[u8]) {
 
 // One case, with the texts that its first two words stand for: the letter says which function is called.
 fn answer<'a>(line: &'a [u8], text: &'a [u8], other: &'a [u8]) {
-    let case = words::letter(line);
+    let case = case::letter(line);
     match case {
         Case::Comment => comment(line),
         Case::Find => leaves::find(line, text),
@@ -40,8 +40,8 @@ fn answer<'a>(line: &'a [u8], text: &'a [u8], other: &'a [u8]) {
         Case::Bounds => columns_cases::bounds(text),
         Case::Record => columns_cases::record(text, other),
         Case::Walk => columns_cases::walk(text),
-        Case::Values => columns_cases::values(text),
-        Case::Lookup => columns_cases::lookup(text, other),
+        Case::Values => columns_cases::values_of(text),
+        Case::Lookup => columns_cases::lookup_of(text, other),
         Case::Version => directive_cases::version(text),
         Case::Region => directive_cases::region(text),
         Case::Build => directive_cases::build(text),
@@ -60,9 +60,9 @@ fn turn(line: &[u8]) {
         return;
     }
     let mut text = [0u8; 512];
-    let n = words::unhex(line, 1, &mut text);
+    let n = case::unhex(line, 1, &mut text);
     let mut other = [0u8; 512];
-    let m = words::unhex(line, 2, &mut other);
+    let m = case::unhex(line, 2, &mut other);
     answer(line, scan::part(&text, 0, n), scan::part(&other, 0, m));
     io::write_all(1, b"\n");
 }
@@ -71,7 +71,7 @@ fn turn(line: &[u8]) {
 fn replay(cases: &[u8]) {
     let mut cursor = Cursor::new();
     loop {
-        match lines::next_line(cases, cursor) {
+        match splitter::next_line(cases, cursor) {
             Next::Line(place, next) => {
                 turn(scan::text(cases, place));
                 cursor = next;

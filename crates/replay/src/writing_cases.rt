@@ -1,12 +1,12 @@
 // Cases of unfolding and writing.
+use super::case;
 use super::show;
-use super::words;
-use directives::GffVersion;
-use directives::Part;
+use judging::Judged;
+use judging::Numbers;
 use marks::Value;
-use unfold::Judged;
-use unfold::Numbers;
 use unfold::Unfolded;
+use versions::GffVersion;
+use versions::Part;
 
 // The largest buffer that a case lends.
 const ROOM: usize = 512;
@@ -22,7 +22,7 @@ fn numbers(n: Numbers) {
 
 // J LINE: the sheet's length, and start, end, strand and phase
 pub(crate) fn judge(text: &[u8]) {
-    match unfold::judge(text) {
+    match judging::judge(text) {
         Judged::Is(n, length) => {
             show::number(length as u64);
             numbers(n)
@@ -49,16 +49,16 @@ fn unfolded(answer: Unfolded) {
 // U LINE ROOM: the same, and the whole buffer
 pub(crate) fn unfold_line(line: &[u8], text: &[u8]) {
     let mut room = [170u8; ROOM];
-    let size = words::number(line, 2) as usize;
-    unfolded(unfold::unfold(text, words::front(&mut room, size)));
+    let size = case::number(line, 2) as usize;
+    unfolded(unfold::unfold(text, case::front(&mut room, size)));
     show::hex(scan::part(&room, 0, size))
 }
 
 // c TEXT ROOM
 pub(crate) fn comment(line: &[u8], text: &[u8]) {
     let mut room = [170u8; ROOM];
-    let size = words::number(line, 2) as usize;
-    let answer = comments::write_comment(text, words::front(&mut room, size));
+    let size = case::number(line, 2) as usize;
+    let answer = comments::write_comment(text, case::front(&mut room, size));
     show::written(answer, scan::part(&room, 0, size))
 }
 
@@ -76,14 +76,14 @@ fn part(there: u64, n: u64) -> Part {
 
 // The value that words 5 to 10 say: its kind, start or major, end, and whether there is a minor, the minor, and so for the patch.
 fn value(line: &[u8]) -> Value {
-    match words::number(line, 5) {
+    match case::number(line, 5) {
         1 => Value::Text,
         2 => Value::Version(GffVersion {
-            major: short(words::number(line, 6)),
-            minor: part(words::number(line, 7), words::number(line, 8)),
-            patch: part(words::number(line, 9), words::number(line, 10)),
+            major: short(case::number(line, 6)),
+            minor: part(case::number(line, 7), case::number(line, 8)),
+            patch: part(case::number(line, 9), case::number(line, 10)),
         }),
-        3 => Value::Region(words::number(line, 6), words::number(line, 7)),
+        3 => Value::Region(case::number(line, 6), case::number(line, 7)),
         4 => Value::Build,
         _ => Value::None,
     }
@@ -92,15 +92,15 @@ fn value(line: &[u8]) -> Value {
 // k KEY FIRST SECOND ROOM and the value
 pub(crate) fn directive(line: &[u8], key: &[u8], first: &[u8]) {
     let mut second = [0u8; ROOM];
-    let n = words::unhex(line, 3, &mut second);
+    let n = case::unhex(line, 3, &mut second);
     let mut room = [170u8; ROOM];
-    let size = words::number(line, 4) as usize;
+    let size = case::number(line, 4) as usize;
     let answer = marks::write_directive(
         key,
         value(line),
         first,
         scan::part(&second, 0, n),
-        words::front(&mut room, size),
+        case::front(&mut room, size),
     );
     show::written(answer, scan::part(&room, 0, size))
 }
@@ -108,14 +108,14 @@ pub(crate) fn directive(line: &[u8], key: &[u8], first: &[u8]) {
 // s SHEET START END STRAND PHASE ROOM
 pub(crate) fn record_line(line: &[u8], sheet: &[u8]) {
     let mut room = [170u8; ROOM];
-    let size = words::number(line, 6) as usize;
+    let size = case::number(line, 6) as usize;
     let answer = record::write_record(
         sheet,
-        words::number(line, 2),
-        words::number(line, 3),
-        short(words::number(line, 4)),
-        short(words::number(line, 5)),
-        words::front(&mut room, size),
+        case::number(line, 2),
+        case::number(line, 3),
+        short(case::number(line, 4)),
+        short(case::number(line, 5)),
+        case::front(&mut room, size),
     );
     show::written(answer, scan::part(&room, 0, size))
 }

@@ -15,16 +15,17 @@ use Rattle.buffer.specs.declared.Written.the-variants as writing
 use Rattle.buffer.specs.Answer.{Reason, first, answer, contents, Wrote}
 use Rattle.buffer.specs.Laid.{Lays}
 use Rattle.buffer.proofs.LaidLaws.{laid-start, lays-then}
-use Rattle.numbers.specs.Decimal.{decimal}
-use Rattle.numbers.proofs.DecimalLaws.{length-decimal}
-use Rattle.unfold.specs.declared.judging.Numbers.{Numbers}
+use Rattle.decimals.specs.Decimal.{decimal}
+use Rattle.decimals.proofs.DecimalLaws.{length-decimal}
+use Rattle.judging.specs.declared.judging.Numbers.{Numbers}
+use Rattle.judging.specs.Judge.{unfold-reasons}
 use Rattle.unfold.specs.declared.lay.Unfolded.{Unfolded}
 use Rattle.unfold.specs.declared.lay.Unfolded.the-variants as unfolding-answers
-use Rattle.unfold.specs.Unfold.{unfold-reasons, unfolding-by, Unfolds}
+use Rattle.unfold.specs.Unfold.{unfolding-by, Unfolds}
 use Rattle.unfold.specs.Unfold.{contents as sheet-left}
-use Rattle.lines.specs.Lines.{text}
-use Rattle.lines.specs.Step.{steps}
-use Rattle.lines.proofs.StepLaws.{steps-lines}
+use Rattle.splitter.specs.Lines.{text}
+use Rattle.splitter.specs.Step.{steps}
+use Rattle.splitter.proofs.StepLaws.{steps-lines}
 use Rattle.tokens.specs.Tokens.{strandNumber, phaseNumber}
 use Rattle.measure.specs.Record.{record-reasons, record-line}
 use Rattle.rewrite.specs.Rewrite.{room, sheet-from, line-again, refusal, said, written-again, record-again, line-rewritten, rewritten}

@@ -3,23 +3,23 @@ use Prim.Native.Nat.{ℕ}
 use mathlib.Core.Path.{_≡_, refl}
 use mathlib.Core.List.{List, [], _∷_, _++_, flatMap}
 use Rattle.scan.specs.Find.{index, seek}
-use Rattle.scan.specs.Same.{same, isDot}
+use Rattle.words.specs.Same.{same, isDot}
 use Rattle.numbers.specs.Number.{allDigits, someDigits, value-after, numeral}
-use Rattle.numbers.specs.Decimal.{digits}
+use Rattle.decimals.specs.Decimal.{digits}
 use Rattle.percent.specs.Percent.{isHex, hexValue, hexDigit, decoded, escape, piece, encoded}
-use Rattle.percent.specs.Sets.{escapes}
+use Rattle.sets.specs.Sets.{escapes}
 use Rattle.tokens.specs.Tokens.{strandNumber, phaseNumber, positionText, strandText, phaseText}
-use Rattle.tokens.specs.Score.{sansSign, sansMinus, isExponent, isFraction, isScore}
-use Rattle.columns.specs.Columns.{end, columnPlace}
-use Rattle.attributes.specs.Pieces.{pieces-after, prefixed, joined}
+use Rattle.scores.specs.Score.{sansSign, sansMinus, isExponent, isFraction, isScore}
+use Rattle.columns.specs.Columns.{end, ends, placeIn}
+use Rattle.values.specs.Pieces.{pieces-after, prefixed, joined}
 use Rattle.attributes.specs.Attributes as column9
 use Rattle.attributes.specs.Written.{written, column}
 use Rattle.sheet.specs.Reader.{number, times, times-some, counted, counted-some}
 use Rattle.sheet.specs.Sheet.{read-attribute, read-sheet, ended, number-of, section-of, counted-of, attribute-of, sheet-of}
-use Rattle.unfold.specs.Unfold as reading
+use Rattle.judging.specs.Judge as reading
 use Rattle.measure.specs.Record as writing
 use Rattle.lines.specs.Kind.{kind}
-use Rattle.lines.specs.Lines.{chomped, lines-after, text}
+use Rattle.splitter.specs.Lines.{chomped, lines-after, text}
 use Rattle.rewrite.specs.Rewrite.{said, record-again, line-rewritten, rewritten}
 
 -- `##gff-version 3` and a line feed
@@ -34,5 +34,5 @@ front =
 -- the input's third line is `x`; the output has `b;c` as `b%3Bc`, and `! 1`
 sample : rewritten (version ++ (front ++ (59 ∷ 99 ∷ 61 ∷ 50 ∷ 10 ∷ 120 ∷ 10 ∷ [])))
     ≡ version ++ (front ++ (37 ∷ 51 ∷ 66 ∷ 99 ∷ 61 ∷ 50 ∷ 10 ∷ 33 ∷ 32 ∷ 49 ∷ 10 ∷ []))
-unfolding index seek same isDot allDigits someDigits value-after numeral digits isHex hexValue hexDigit decoded escape piece encoded escapes kind chomped lines-after text end columnPlace strandNumber phaseNumber positionText strandText phaseText sansSign sansMinus isExponent isFraction isScore pieces-after prefixed joined column9.tag-after column9.value-after column9.walk-from column9.attribute column9.attributes written column number times times-some counted counted-some read-attribute read-sheet ended number-of section-of counted-of attribute-of sheet-of reading.scoreOf reading.unfolded reading.numbers-of writing.record-reasons writing.scoreOf writing.columns writing.record-line said record-again line-rewritten rewritten flatMap
+unfolding index seek same isDot allDigits someDigits value-after numeral digits isHex hexValue hexDigit decoded escape piece encoded escapes kind chomped lines-after text end ends placeIn strandNumber phaseNumber positionText strandText phaseText sansSign sansMinus isExponent isFraction isScore pieces-after prefixed joined column9.tag-after column9.value-after column9.walk-from column9.attribute column9.attributes written column number times times-some counted counted-some read-attribute read-sheet ended number-of section-of counted-of attribute-of sheet-of reading.scoreOf reading.unfolded reading.numbers-of writing.record-reasons writing.scoreOf writing.columns writing.record-line said record-again line-rewritten rewritten flatMap
 sample = refl

@@ -6,15 +6,15 @@ use mathlib.Core.List.{List, [], _∷_, _++_, map}
 use lib.Dec.{ltb}
 use lib.ListN.{length}
 use Rattle.buffer.specs.Answer.{Reason, _when_, first}
-use Rattle.numbers.specs.Decimal.{decimal}
+use Rattle.decimals.specs.Decimal.{decimal}
 use Rattle.lines.specs.declared.kind.Kind.{Kind}
 use Rattle.lines.specs.declared.kind.Kind.the-variants.{Directive, Comment, Record}
 use Rattle.lines.specs.Kind.{kind}
-use Rattle.lines.specs.Lines.{lines, text}
+use Rattle.splitter.specs.Lines.{lines, text}
 use Rattle.tokens.specs.Tokens.{strandNumber, phaseNumber}
 use Rattle.sheet.specs.Sheet.{sheet-of}
-use Rattle.unfold.specs.declared.judging.Numbers.{Numbers}
-use Rattle.unfold.specs.Unfold.{unfolded, numbers-of, unfold-reasons}
+use Rattle.judging.specs.declared.judging.Numbers.{Numbers}
+use Rattle.judging.specs.Judge.{unfolded, numbers-of, unfold-reasons}
 use Rattle.measure.specs.Record.{record-reasons, record-line}
 
 -- "one buffer of 65,536 zero bytes"; the sheet and line buffers "have the same size"

@@ -1,7 +1,7 @@
 // One line, answered by way of a sheet buffer and a line buffer that are used anew.
 use buffer::Written;
+use judging::Numbers;
 use lines::Kind;
-use unfold::Numbers;
 use unfold::Unfolded;
 ghost use mathlib.Core.Path.{_≡_};
 ghost use lib.ListN.{length};
@@ -22,7 +22,7 @@ fn refuse(n: u32, out: &mut [u8]) -> usize
     ensures { λ r. ⌜ part 0 r (now (out .exit)) ≡ refusal n ⌝ }
 {
     let at = buffer::lay(b"! ", out, 0);
-    numbers::lay_decimal(n as u64, out, at)
+    decimals::lay_decimal(n as u64, out, at)
 }
 
 // Writes a sheet and its numbers again, or the writer's refusal.

@@ -8,8 +8,8 @@ mod line;
 use libc::STDERR_FILENO;
 use libc::STDIN_FILENO;
 use libc::STDOUT_FILENO;
-use lines::Cursor;
-use lines::Next;
+use splitter::Cursor;
+use splitter::Next;
 ghost use mathlib.Core.Path.{_≡_};
 ghost use lib.ListN.{length};
 
@@ -30,7 +30,7 @@ fn rewrite(text: &[u8], sheet: &mut [u8], out: &mut [u8])
 {
     let mut cursor = Cursor::new();
     loop {
-        match lines::next_line(text, cursor) {
+        match splitter::next_line(text, cursor) {
             Next::Line(place, next) => {
                 if !turn(scan::text(text, place), sheet, out) {
                     io::write_all(STDERR_FILENO, b"rewrite: standard output takes no more\n");

@@ -18,18 +18,17 @@ use Rattle.tokens.specs.declared.strand.StrandRead.the-variants as strandRead
 use Rattle.tokens.specs.declared.phase.Phase.{Phase}
 use Rattle.tokens.specs.declared.phase.Phase.the-variants as phase
 use Rattle.tokens.specs.declared.phase.PhaseRead.the-variants as phaseRead
-use Rattle.tokens.specs.Tokens as fields
 use Rattle.lists.proofs.BoolLaws.{or-left, or-right}
-use Rattle.scan.specs.Same.{isDot}
-use Rattle.tokens.specs.Tokens.{strandNumber, strandText, phaseNumber, phaseText}
-use Rattle.tokens.specs.Score.{isScore}
+use Rattle.words.specs.Same.{isDot}
+use Rattle.tokens.specs.Tokens.{strandNumber, strandText, strandByteOf, phaseNumber, phaseText, phaseByteOf}
+use Rattle.scores.specs.Score.{isScore}
 use Rattle.tokens.proofs.TokensLaws.{strand-back, phase-back}
-use Rattle.tokens.proofs.ScoreLaws.{isScoreByte, score-lacks, score-no-dot}
+use Rattle.scores.proofs.ScoreLaws.{isScoreByte, score-lacks, score-no-dot}
 use Rattle.sheet.specs.Sheet.{Sheet, sheet-read, isSome, sheet-of}
 use Rattle.sheet.proofs.SheetLaws.{GoodSheet, of-read}
-use Rattle.measure.specs.Record.{asked, badScore, record-reasons, strandByteOf, phaseByteOf, scoreOf}
-use Rattle.unfold.specs.Unfold as unfolds
-use Rattle.unfold.specs.Unfold.{noScore}
+use Rattle.measure.specs.Record.{asked, badScore, record-reasons, scoreOf}
+use Rattle.judging.specs.Judge as judging
+use Rattle.judging.specs.Judge.{noScore}
 
 -- ── what the writer asks ──────────────────────────────────────────────────────────────────────
 
@@ -109,27 +108,12 @@ phase-number (suc zero) h = refl
 phase-number (suc (suc zero)) h = refl
 phase-number (suc (suc (suc n))) h = omega arith
 
--- the byte of a strand's number is the strand's byte, and so for a phase
-pub strand-byte : (t : Strand) → strandByteOf (strandNumber t) ≡ fields.strandByteOf t
-unfolding strandNumber fields.strandByteOf
-strand-byte strand.None = refl
-strand-byte strand.Forward = refl
-strand-byte strand.Reverse = refl
-strand-byte strand.Unknown = refl
-
-pub phase-byte : (p : Phase) → phaseByteOf (phaseNumber p) ≡ fields.phaseByteOf p
-unfolding phaseNumber fields.phaseByteOf
-phase-byte phase.Zero = refl
-phase-byte phase.One = refl
-phase-byte phase.Two = refl
-phase-byte phase.None = refl
-
--- so what is written for a number is read as the strand, or the phase, of that number
+-- what is written for a number is read as the strand, or the phase, of that number
 pub strand-read : (n : ℕ) → n ≤ 3 → strandText (strandByteOf n ∷ []) ≡ strandRead.Is (strandOf n)
-strand-read n h = ap (λ k. strandText (strandByteOf k ∷ [])) (sym (strand-number n h)) ∙ rw (strand-byte (strandOf n)) (strand-back (strandOf n))
+strand-read n h = ap (λ k. strandText (strandByteOf k ∷ [])) (sym (strand-number n h)) ∙ strand-back (strandOf n)
 
 pub phase-read : (n : ℕ) → n ≤ 3 → phaseText (phaseByteOf n ∷ []) ≡ phaseRead.Is (phaseOf n)
-phase-read n h = ap (λ k. phaseText (phaseByteOf k ∷ [])) (sym (phase-number n h)) ∙ rw (phase-byte (phaseOf n)) (phase-back (phaseOf n))
+phase-read n h = ap (λ k. phaseText (phaseByteOf k ∷ [])) (sym (phase-number n h)) ∙ phase-back (phaseOf n)
 
 -- ── the score ─────────────────────────────────────────────────────────────────────────────────
 
@@ -157,8 +141,8 @@ unfolding scoreOf
 length-score [] = omega arith
 length-score (x ∷ s) = omega arith
 
-pub score-read : (s : List ℕ) → Fit s → (noScore (scoreOf s) ≡ false) × (unfolds.scoreOf (scoreOf s) ≡ s)
-unfolding scoreOf unfolds.scoreOf isDot
+pub score-read : (s : List ℕ) → Fit s → (noScore (scoreOf s) ≡ false) × (judging.scoreOf (scoreOf s) ≡ s)
+unfolding scoreOf judging.scoreOf isDot
 score-read [] e = (refl, refl)
 score-read (x ∷ s) e = let t = token x s e in (rw (no-dot (x ∷ s) t, t), rw (no-dot (x ∷ s) t))
 
@@ -168,8 +152,8 @@ scoreOf-lacks c other dot [] e = (dot, tt)
 scoreOf-lacks c other dot (x ∷ s) e = score-lacks c other (x ∷ s) (token x s e)
 
 -- what is read of a score is raw, or nothing
-pub score-bytes : (s : List ℕ) → Bytes s → Bytes (unfolds.scoreOf s)
-unfolding unfolds.scoreOf
+pub score-bytes : (s : List ℕ) → Bytes s → Bytes (judging.scoreOf s)
+unfolding judging.scoreOf
 score-bytes s h = go (isDot s)
   where
     go : (t : Bool) → Bytes (cond t [] s)

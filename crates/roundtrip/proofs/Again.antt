@@ -14,9 +14,10 @@ use Rattle.columns.specs.declared.column.Column.the-variants as column
 use Rattle.columns.specs.Columns.{columnText}
 use Rattle.sheet.specs.Sheet.{sheet-of}
 use Rattle.measure.specs.Record.{record-reasons, record-line}
-use Rattle.unfold.specs.declared.judging.Numbers.{Numbers}
+use Rattle.judging.specs.declared.judging.Numbers.{Numbers}
+use Rattle.judging.specs.Judge.{unfolded, numbers-of, unfold-reasons}
 use Rattle.unfold.specs.declared.lay.Unfolded.the-variants.{Done}
-use Rattle.unfold.specs.Unfold.{unfolded, numbers-of, unfold-reasons, unfolding-by, contents, Unfolds}
+use Rattle.unfold.specs.Unfold.{unfolding-by, contents, Unfolds}
 use Rattle.roundtrip.specs.Reading.{ReadsRecord}
 use Rattle.roundtrip.proofs.BytesLaws.{unfolded-bytes, position-le}
 use Rattle.roundtrip.proofs.RecordBack.{record-back}

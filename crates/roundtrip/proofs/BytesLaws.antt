@@ -17,15 +17,15 @@ use Rattle.numbers.specs.declared.read.Number.the-variants.{Value, Invalid}
 use Rattle.numbers.specs.Number.{position, most64}
 use Rattle.numbers.proofs.NumberLaws.{numeral-bounds}
 use Rattle.percent.specs.Percent.{isHex, hexValue, decoded}
-use Rattle.attributes.specs.Pieces.{pieces-after, pieces}
-use Rattle.scan.specs.Same.{isDot}
+use Rattle.values.specs.Pieces.{pieces-after, pieces}
+use Rattle.words.specs.Same.{isDot}
 use Rattle.attributes.specs.Attributes.{Walk, done, refused, then, tag-after, value-after, walk-from, walk, Attribute, attribute, before, attributes}
 use Rattle.tokens.specs.Tokens.{positionOf, positionText}
 use Rattle.columns.specs.declared.column.Column.{Column}
 use Rattle.columns.specs.declared.column.Column.the-variants as column
 use Rattle.columns.specs.Columns.{columnPlace, columnText}
 use Rattle.sheet.specs.Sheet.{Sheet, number-of, section-of, counted-of, attribute-of, sheet-of}
-use Rattle.unfold.specs.Unfold.{got, unfolded, positionIn}
+use Rattle.judging.specs.Judge.{got, unfolded, positionIn}
 use Rattle.roundtrip.proofs.AcceptedLaws.{score-bytes}
 
 -- ── parts and pieces ──────────────────────────────────────────────────────────────────────────

@@ -11,26 +11,27 @@ use lib.ListN.{length, getD, length-append}
 use Rattle.lists.specs.Bytes.{Every, Bytes, Lacks}
 use Rattle.lists.proofs.EveryLaws.{every-append}
 use Rattle.numbers.specs.Number.{isDigit, most64}
-use Rattle.numbers.proofs.DecimalLaws.{decimal-lacks, length-decimal}
-use Rattle.percent.specs.declared.set.Set.the-variants.{Name, Column, Attribute}
+use Rattle.decimals.proofs.DecimalLaws.{decimal-lacks, length-decimal}
+use Rattle.sets.specs.declared.Set.the-variants.{Name, Column, Attribute}
 use Rattle.percent.specs.Percent.{isHex, encoded}
-use Rattle.percent.specs.Sets.{escapes}
+use Rattle.sets.specs.Sets.{escapes}
 use Rattle.percent.proofs.PercentLaws.{encoded-le}
-use Rattle.percent.proofs.SetLaws.{encoded-no-control, encoded-no-hash}
+use Rattle.sets.proofs.SetLaws.{encoded-no-control, encoded-no-hash}
 use Rattle.lines.specs.declared.kind.Kind.the-variants.{Record}
 use Rattle.lines.specs.Kind.{kind}
-use Rattle.lines.specs.Lines.{OneLine}
+use Rattle.splitter.specs.Lines.{OneLine}
 use Rattle.lines.proofs.KindLaws.{kind-record}
 use Rattle.attributes.specs.Attributes as attributes
-use Rattle.attributes.specs.Pieces.{prefixed, joined}
+use Rattle.values.specs.Pieces.{prefixed, joined}
 use Rattle.attributes.specs.Written.{Writable, written, column}
 use Rattle.attributes.proofs.WrittenLaws.{column-lacks}
-use Rattle.tokens.proofs.ScoreLaws.{isScoreByte}
+use Rattle.tokens.specs.Tokens.{strandByteOf, phaseByteOf}
+use Rattle.scores.proofs.ScoreLaws.{isScoreByte}
 use Rattle.columns.specs.Columns.{rowOf}
 use Rattle.sheet.specs.Sheet.{Sheet, section-of, attribute-of}
 use Rattle.sheet.proofs.SheetLaws.{Text, GoodAttribute}
 use Rattle.sheet.proofs.LengthLaws.{length-section, length-attribute, length-sheet}
-use Rattle.measure.specs.Record.{strandByteOf, phaseByteOf, columns, record-line}
+use Rattle.measure.specs.Record.{columns, record-line}
 use Rattle.roundtrip.proofs.AcceptedLaws.{Accepted, length-score, scoreOf-lacks}
 
 -- column 9 as it is written

@@ -9,15 +9,15 @@ use lib.ListN.{length, getD}
 use borrow.Author.Tests.{le-ltb}
 use Rattle.lists.specs.Bytes.{Bytes}
 use Rattle.buffer.specs.Answer.{first}
-use Rattle.numbers.specs.Decimal.{decimal}
+use Rattle.decimals.specs.Decimal.{decimal}
 use Rattle.numbers.specs.Number.{most64}
-use Rattle.numbers.proofs.DecimalLaws.{position-decimal}
-use Rattle.percent.specs.declared.set.Set.the-variants as set
-use Rattle.percent.specs.Sets.{escapes}
-use Rattle.percent.proofs.SetLaws.{decoded-set}
+use Rattle.decimals.proofs.DecimalLaws.{position-decimal}
+use Rattle.sets.specs.declared.Set.the-variants as set
+use Rattle.sets.specs.Sets.{escapes}
+use Rattle.sets.proofs.SetLaws.{decoded-set}
 use Rattle.lines.specs.declared.kind.Kind.the-variants.{Record}
 use Rattle.lines.specs.Kind.{kind}
-use Rattle.lines.specs.Lines.{OneLine}
+use Rattle.splitter.specs.Lines.{OneLine}
 use Rattle.attributes.specs.Attributes.{attributes, walk}
 use Rattle.attributes.proofs.WrittenLaws.{walk-column}
 use Rattle.tokens.specs.declared.position.PositionRead.the-variants as positionRead
@@ -30,9 +30,10 @@ use Rattle.columns.specs.Columns.{isRecord, columnText, tabsBefore}
 use Rattle.columns.proofs.ColumnsLaws.{row-record, row-text}
 use Rattle.sheet.specs.Sheet.{sheet-read, sheet-of}
 use Rattle.measure.specs.Record.{columns, record-reasons, record-line}
+use Rattle.judging.specs.Judge.{unfolded, numbers-of, unfold-reasons}
 use Rattle.unfold.specs.declared.lay.Unfolded.{Unfolded}
 use Rattle.unfold.specs.declared.lay.Unfolded.the-variants.{Done}
-use Rattle.unfold.specs.Unfold.{unfolded, numbers-of, unfold-reasons, unfolding-by, contents, Unfolds}
+use Rattle.unfold.specs.Unfold.{unfolding-by, contents, Unfolds}
 use Rattle.roundtrip.specs.Reading.{AreNumbers, Gives, ReadsRecord}
 use Rattle.roundtrip.proofs.AcceptedLaws.{Accepted, accepted, strandOf, phaseOf, strand-number, phase-number, strand-read, phase-read, score-read}
 use Rattle.roundtrip.proofs.LineLaws.{column-9, line-is, writable, columns-no-tab, line-one, line-kind, line-short}

@@ -7,7 +7,7 @@ use lib.ListN.{length, drop}
 use Rattle.lines.specs.declared.kind.Kind.the-variants.{Record}
 use Rattle.lines.specs.Kind.{kind}
 use Rattle.tokens.specs.Tokens.{strandNumber, phaseNumber}
-use Rattle.unfold.specs.declared.judging.Numbers.{Numbers}
+use Rattle.judging.specs.declared.judging.Numbers.{Numbers}
 use Rattle.unfold.specs.declared.lay.Unfolded.{Unfolded}
 use Rattle.unfold.specs.declared.lay.Unfolded.the-variants.{Done}
 use Rattle.unfold.specs.Unfold.{Unfolds}

@@ -5,8 +5,6 @@
 // Proved: each answer equals the plain definition of specs/, byte by byte. Assumes nothing.
 mod mask;
 mod place;
-mod same;
-mod word;
 
 ghost use mathlib.Core.Path.{_≡_};
 ghost use Prim.Native.Nat.{_≤_};
@@ -15,12 +13,6 @@ ghost use Rattle.scan.specs.Find.{found};
 pub use place::Place;
 pub use place::part;
 pub use place::text;
-pub use same::is_dot;
-pub use same::is_same;
-pub use word::find_ink;
-pub use word::find_space;
-pub use word::is_space;
-pub use word::next_word;
 
 // Byte by byte: for a text too short for a window.
 fn find_few(s: &[u8], at: usize, b: u8) -> usize

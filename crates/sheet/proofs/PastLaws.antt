@@ -2,7 +2,6 @@
 use native.Mathlib.Omega.{arith}
 use native.Mathlib.Numerals.{add-one}
 use mathlib.Core.Path.{_≡_, refl, ap, _∙_}
-use mathlib.Core.Bool.{false}
 use mathlib.Core.List.{List, [], _∷_}
 use mathlib.Core.Option.{some, Option·none-ne-some}
 use Prim.Native.Nat.{ℕ, zero, suc, _+_, _≤_, _<_}
@@ -158,11 +157,6 @@ unfolding ended
 past-ended s r (beyond h) = ne-eqb r (length s) (λ e. omega arith)
 past-ended s r (past {rest = []} h e p) = eq-eqb r (length s) (omega (arith, ap length e, length-drop r s))
 past-ended s r (past {rest = x ∷ rest} h e p) = ne-eqb r (length s) (λ q. omega (arith, ap length e, length-drop r s))
-
-pub past-no-end : {A : Type 0} {P : A → Type 0} (s : List ℕ) (r : ℕ) {m : Taken A} → Passes P s r m → length s < r → false ≡ isSome (ended m)
-unfolding ended
-past-no-end s r (beyond h) l = refl
-past-no-end s r (past h e p) l = absurd (omega arith)
 
 -- what the whole was read as, if it was all that there is
 pub past-whole : {A : Type 0} {P : A → Type 0} {s : List ℕ} {r : ℕ} {m : Taken A} → Passes P s r m → (a : A) → ended m ≡ some a → P a

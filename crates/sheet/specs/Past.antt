@@ -9,7 +9,3 @@ use Rattle.sheet.specs.Reader.{Taken, no-form, took}
 pub data Passes {A : Type 0} (P : A → Type 0) (s : List ℕ) (r : ℕ) : Taken A → Type 0 where
   beyond : length s < r → Passes P s r no-form
   past : {a : A} {rest : List ℕ} → r ≤ length s → rest ≡ drop r s → P a → Passes P s r (took a rest)
-
--- so, whatever was read
-abbrev pub Past : {A : Type 0} → List ℕ → ℕ → Taken A → Type 0
-Past s r m = Passes (λ a. Unit {0}) s r m

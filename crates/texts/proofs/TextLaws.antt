@@ -12,7 +12,7 @@ use Rattle.lists.specs.Bytes.{Every, Lacks}
 use Rattle.lists.proofs.BoolLaws.{or-left, or-right}
 use Rattle.lists.proofs.OrderLaws.{le-or-lt}
 use Rattle.scan.specs.Find.{index, seek, is}
-use Rattle.scan.specs.Word.{isSpace}
+use Rattle.words.specs.Word.{isSpace}
 use Rattle.texts.specs.Text.{holds, breaks, unfit}
 
 ltb-suc : (a b : ℕ) → ltb (suc a) (suc b) ≡ ltb a b

@@ -5,7 +5,7 @@ use mathlib.Core.List.{List, [], _∷_}
 use lib.Dec.{eqb, ltb}
 use lib.ListN.{length}
 use Rattle.scan.specs.Find.{is}
-use Rattle.scan.specs.Word.{isSpace}
+use Rattle.words.specs.Word.{isSpace}
 
 -- a byte of the text passes the test
 unfoldable pub holds : (ℕ → Bool) → List ℕ → Bool

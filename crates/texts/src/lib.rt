@@ -2,7 +2,7 @@
 //
 // Proved: each answer, for every text. Assumes nothing.
 ghost use mathlib.Core.Path.{_≡_};
-ghost use Rattle.scan.specs.Word.{isSpace};
+ghost use Rattle.words.specs.Word.{isSpace};
 ghost use Rattle.texts.specs.Text.{holds, long, breaks, unfit};
 
 // The longest text of a comment or a directive.
@@ -26,7 +26,7 @@ pub fn breaks(s: &[u8]) -> bool
 pub fn is_spaced(s: &[u8]) -> bool
     ensures { λ r. ⌜ r ≡ holds isSpace (now (s .entry)) ⌝ }
 {
-    scan::find_space(s, 0) < s.len()
+    words::find_space(s, 0) < s.len()
 }
 
 // No word: empty, or with white space.

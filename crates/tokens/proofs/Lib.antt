@@ -1,4 +1,2 @@
-pub mod ScoreLaws
 pub mod TokensLaws
-mod Samples
 mod Unique

@@ -1,5 +1,5 @@
--- Laws of strand and phase: a text of one byte is judged by it, any other is refused; what is written for a strand or a phase is read
--- as it; no two strands and no two phases have one number. Assumes nothing.
+-- Laws of strand and phase: a text of one byte is judged by it, any other is refused; what is written for the number of a strand
+-- or a phase is read as it; no two strands and no two phases have one number. Assumes nothing.
 use Prim.Native.Nat.{ℕ}
 use native.Mathlib.Omega.{arith}
 use mathlib.Core.Path.{_≡_, refl, sym, ap, _∙_}
@@ -44,15 +44,15 @@ phase-byte = one-byte phaseText phaseByte refl (λ x. refl) (λ x y s. refl)
 
 -- ── written and read ──────────────────────────────────────────────────────────────────────────
 
-pub strand-back : (t : Strand) → strandText (strandByteOf t ∷ []) ≡ strandRead.Is t
-unfolding strandText strandByteOf
+pub strand-back : (t : Strand) → strandText (strandByteOf (strandNumber t) ∷ []) ≡ strandRead.Is t
+unfolding strandText strandNumber
 strand-back strand.None = refl
 strand-back strand.Forward = refl
 strand-back strand.Reverse = refl
 strand-back strand.Unknown = refl
 
-pub phase-back : (p : Phase) → phaseText (phaseByteOf p ∷ []) ≡ phaseRead.Is p
-unfolding phaseText phaseByteOf
+pub phase-back : (p : Phase) → phaseText (phaseByteOf (phaseNumber p) ∷ []) ≡ phaseRead.Is p
+unfolding phaseText phaseNumber
 phase-back phase.Zero = refl
 phase-back phase.One = refl
 phase-back phase.Two = refl

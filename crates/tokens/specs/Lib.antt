@@ -1,2 +1,1 @@
-pub mod Score
 pub mod Tokens

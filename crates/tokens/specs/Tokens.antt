@@ -56,12 +56,9 @@ strandText [] = strandRead.Refused 3
 strandText (x ∷ []) = strandByte x
 strandText (x ∷ y ∷ s) = strandRead.Refused 3
 
--- the byte that is written for a strand
-unfoldable pub strandByteOf : Strand → ℕ
-strandByteOf strand.None = 46
-strandByteOf strand.Forward = 43
-strandByteOf strand.Reverse = 45
-strandByteOf strand.Unknown = 63
+-- the byte that is written for a strand's number, 0 to 3 for `.` `+` `-` `?`
+abbrev pub strandByteOf : ℕ → ℕ
+strandByteOf n = cond (eqb n 0) 46 (cond (eqb n 1) 43 (cond (eqb n 2) 45 63))
 
 -- `.` `0` `1` `2`, else 4
 abbrev pub phaseByte : ℕ → PhaseRead
@@ -74,9 +71,6 @@ phaseText [] = phaseRead.Refused 4
 phaseText (x ∷ []) = phaseByte x
 phaseText (x ∷ y ∷ s) = phaseRead.Refused 4
 
--- the byte that is written for a phase
-unfoldable pub phaseByteOf : Phase → ℕ
-phaseByteOf phase.Zero = 48
-phaseByteOf phase.One = 49
-phaseByteOf phase.Two = 50
-phaseByteOf phase.None = 46
+-- the byte that is written for a phase's number, 0 to 2 as digits, and `.` for none
+abbrev pub phaseByteOf : ℕ → ℕ
+phaseByteOf n = cond (eqb n 0) 48 (cond (eqb n 1) 49 (cond (eqb n 2) 50 46))

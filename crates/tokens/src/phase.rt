@@ -1,6 +1,6 @@
 // A phase, as column 8 has it.
 ghost use mathlib.Core.Path.{_≡_};
-ghost use Rattle.tokens.specs.Tokens.{phaseNumber, phaseText};
+ghost use Rattle.tokens.specs.Tokens.{phaseNumber, phaseText, phaseByteOf};
 
 // Document 01's numbers 0 to 3, in this order.
 pub enum Phase {
@@ -43,4 +43,17 @@ pub fn phase_number(phase: Phase) -> u32
         Phase::Two => 2,
         Phase::None => 3,
     }
+}
+
+// The byte of column 8 for a phase's number: 0 to 2 as digits, and `.` for 3; another number counts as 3.
+pub fn phase_byte(phase: u32) -> u8
+    ensures { λ r. ⌜ r ≡ phaseByteOf phase ⌝ }
+{
+    if phase == 0 {
+        return b'0';
+    }
+    if phase == 1 {
+        return b'1';
+    }
+    if phase == 2 { b'2' } else { b'.' }
 }

@@ -1,6 +1,6 @@
 // A strand, as column 7 has it.
 ghost use mathlib.Core.Path.{_≡_};
-ghost use Rattle.tokens.specs.Tokens.{strandNumber, strandText};
+ghost use Rattle.tokens.specs.Tokens.{strandNumber, strandText, strandByteOf};
 
 // Document 01's numbers 0 to 3, in this order.
 pub enum Strand {
@@ -46,4 +46,17 @@ pub fn strand_number(strand: Strand) -> u32
         Strand::Reverse => 2,
         Strand::Unknown => 3,
     }
+}
+
+// The byte of column 7 for a strand's number: 0 to 3 for `.` `+` `-` `?`; another number counts as 3.
+pub fn strand_byte(strand: u32) -> u8
+    ensures { λ r. ⌜ r ≡ strandByteOf strand ⌝ }
+{
+    if strand == 0 {
+        return b'.';
+    }
+    if strand == 1 {
+        return b'+';
+    }
+    if strand == 2 { b'-' } else { b'?' }
 }

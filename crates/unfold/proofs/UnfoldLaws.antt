@@ -1,25 +1,25 @@
--- How judging and unfolding end, and that the promise of unfolding allows one result. Assumes nothing.
+-- How unfolding ends, how its sheet is laid, and that its promise allows one result. Assumes nothing.
 use Prim.Native.Nat.{ℕ, zero, suc, _≤_, _<_}
 use native.Mathlib.Omega.{arith}
 use mathlib.Core.Path.{_≡_, refl, sym, ap, _∙_}
 use mathlib.Core.Bool.{Bool}
-use mathlib.Core.List.{List}
+use mathlib.Core.List.{List, flatMap}
 use lib.Dec.{ltb}
 use lib.ListN.{length}
 use borrow.Author.Tests.{lt-ltb, le-ltb}
 use Rattle.buffer.specs.Answer.{first}
 use Rattle.buffer.specs.Laid.{Lays}
-use Rattle.buffer.proofs.LaidLaws.{laid-start}
+use Rattle.buffer.proofs.LaidLaws.{laid-start, lays-then}
 use Rattle.columns.specs.declared.bounds.Bounds.{Bounds}
-use Rattle.sheet.specs.Sheet.{sheet-of}
-use Rattle.unfold.specs.declared.judging.Numbers.{Numbers}
-use Rattle.unfold.specs.declared.judging.Judged.the-variants as judge
-use Rattle.unfold.specs.declared.judging.Measured.the-variants.{Is, Refused}
+use Rattle.sheet.specs.Sheet.{Sheet, number-of, section-of, counted-of, attribute-of, sheet-of}
+use Rattle.judging.specs.declared.judging.Numbers.{Numbers}
+use Rattle.judging.specs.declared.judging.Measured.the-variants.{Is, Refused}
+use Rattle.judging.specs.Judge.{unfolded, unfold-reasons}
+use Rattle.judging.specs.Measure.{measured-by, measured}
+use Rattle.judging.proofs.MeasureLaws.{told}
 use Rattle.unfold.specs.declared.lay.Unfolded.{Unfolded}
 use Rattle.unfold.specs.declared.lay.Unfolded.the-variants as answers
-use Rattle.unfold.specs.Unfold.{unfolded, unfold-reasons, judged-by, judged, unfolding-by, contents, Unfolds}
-use Rattle.unfold.specs.Measure.{measured-by, measured}
-use Rattle.unfold.proofs.MeasureLaws.{told}
+use Rattle.unfold.specs.Unfold.{unfolding-by, contents, Unfolds}
 
 -- ── one result ────────────────────────────────────────────────────────────────────────────────
 
@@ -29,20 +29,13 @@ unfolds-one {s} {d} p q =
     let e = p .result ∙ sym (q .result) in
     (e, p .left ∙ ap (λ (r : Unfolded). contents r (sheet-of (unfolded s)) d) e ∙ sym (q .left))
 
--- ── judging ───────────────────────────────────────────────────────────────────────────────────
+-- ── the sheet ─────────────────────────────────────────────────────────────────────────────────
 
-module _ (s : List ℕ) where
-  pub judged-is : {numbers : Numbers} {b : Bounds} {k l : ℕ} → measured s ≡ Is numbers b k l → judge.Is numbers l ≡ judged s
-  unfolding judged-by
-  judged-is e = let t = told s e in rw (t .no-reason, t .numbers-are, t .length-is)
-
-  pub judged-refused : {k : ℕ} → measured s ≡ Refused k → judge.Refused k ≡ judged s
-  unfolding measured-by judged-by
-  judged-refused {k} e = go (first (unfold-reasons s)) e
-    where
-      go : (n : ℕ) → measured-by n s ≡ Refused k → judge.Refused k ≡ judged-by n s
-      go zero e = absurd (let z : _≡_ {A = ℕ} 0 1 = cc in omega arith)
-      go (suc n) e = cc
+-- its sections, laid one after the other
+pub lays-sheet : (s : Sheet) {d d₁ d₂ d₃ d₄ d₅ d₆ : List ℕ} {r₁ r₂ r₃ r₄ r₅ r₆ : ℕ} → Lays (section-of (s .name)) d 0 d₁ r₁ → Lays (section-of (s .source)) d₁ r₁ d₂ r₂ → Lays (section-of (s .type)) d₂ r₂ d₃ r₃ → Lays (section-of (s .score)) d₃ r₃ d₄ r₄
+    → Lays (number-of (length (s .attributes))) d₄ r₄ d₅ r₅ → Lays (flatMap attribute-of (s .attributes)) d₅ r₅ d₆ r₆ → Lays (sheet-of s) d 0 d₆ r₆
+unfolding sheet-of counted-of
+lays-sheet s name source type score count rest = lays-then name (lays-then source (lays-then type (lays-then score (lays-then count rest))))
 
 -- ── unfolding ─────────────────────────────────────────────────────────────────────────────────
 

@@ -1,15 +1,9 @@
 -- Each public function's promise allows one result and one content of a lent buffer. Assumes nothing.
-use mathlib.Core.Path.{sym, _∙_}
 use denote.Ref.{now}
-use Rattle.lists.proofs.One.{One, OneResult}
+use Rattle.lists.proofs.One.{One}
 use Rattle.unfold.proofs.UnfoldLaws.{unfolds-one}
-use Rattle.unfold.proofs.judging.judge.Kinds as judge-kinds
-use Rattle.unfold.proofs.judging.judge.Reads as judging
 use Rattle.unfold.proofs.lay.unfold.Kinds as unfold-kinds
 use Rattle.unfold.proofs.lay.unfold.Reads as laying
-
-judge-one : OneResult 1 judge-kinds.ps judge-kinds.r judging.Post
-judge-one κs a x y s t p q = p ∙ sym q
 
 unfold-one : One 2 unfold-kinds.ps unfold-kinds.r laying.Post (λ κs x. x) (λ κs s. now (s .1 .0))
 unfold-one κs a x y s t p q = unfolds-one p q

@@ -1,10 +1,11 @@
 // The sheet of a line, laid piece by piece over a lent buffer.
-use super::judging::Measured;
-use super::judging::Numbers;
-use attributes::NextValue;
 use attributes::Step;
-use attributes::ValueCursor;
 use columns::Bounds;
+use columns::Column;
+use judging::Measured;
+use judging::Numbers;
+use values::NextValue;
+use values::ValueCursor;
 ghost use mathlib.Core.Path.{_≡_};
 ghost use mathlib.Core.Bool.{false};
 ghost use mathlib.Core.List.{flatMap};
@@ -14,7 +15,8 @@ ghost use Rattle.columns.specs.Columns.{ends, columnText};
 ghost use Rattle.attributes.specs.Attributes.{values, attribute, attributes, walk};
 ghost use Rattle.buffer.specs.Laid.{Lays};
 ghost use Rattle.sheet.specs.Sheet.{section-of, attribute-of, sheet-of};
-ghost use Rattle.unfold.specs.Unfold.{stuck, got, unfolded, Unfolds};
+ghost use Rattle.judging.specs.Judge.{stuck, got, unfolded};
+ghost use Rattle.unfold.specs.Unfold.{Unfolds};
 
 pub enum Unfolded {
     // The sheet stands at the buffer's start: the numbers beside it, and its length.
@@ -31,7 +33,7 @@ fn value_count(value: &[u8]) -> usize
     let mut n: usize = 0;
     let mut cursor = ValueCursor::new();
     loop {
-        match attributes::next_value(value, cursor) {
+        match values::next_value(value, cursor) {
             NextValue::Is(_, next) => {
                 n += 1;
                 cursor = next;
@@ -47,9 +49,9 @@ fn lay_values(value: &[u8], out: &mut [u8], at: usize) -> usize
     let mut to = buffer::least(at, out.len());
     let mut cursor = ValueCursor::new();
     loop {
-        match attributes::next_value(value, cursor) {
+        match values::next_value(value, cursor) {
             NextValue::Is(place, next) => {
-                to = sheet::lay_decoded_section(scan::text(value, place), out, to);
+                to = sections::lay_decoded_section(scan::text(value, place), out, to);
                 cursor = next;
             }
             NextValue::Done => return to,
@@ -60,8 +62,8 @@ fn lay_values(value: &[u8], out: &mut [u8], at: usize) -> usize
 fn lay_attribute(tag: &[u8], value: &[u8], out: &mut [u8], at: usize) -> usize
     ensures { λ r. ⌜ Lays (attribute-of (attribute (now (tag .entry)) (now (value .entry)))) (now (out .entry)) at (now (out .exit)) r ⌝ }
 {
-    let count = sheet::lay_decoded_section(tag, out, at);
-    let first = sheet::lay_count(value_count(value), out, count);
+    let count = sections::lay_decoded_section(tag, out, at);
+    let first = sections::lay_count(value_count(value), out, count);
     lay_values(value, out, first)
 }
 
@@ -90,17 +92,16 @@ fn lay_sheet(line: &[u8], bounds: Bounds, count: usize, out: &mut [u8]) -> usize
     requires { ⌜ (bounds ≡ ends (now line)) × (count ≡ length (unfolded (now line) .attributes)) × (stuck (attributes (walk (columnText column.Attributes (now line)))) ≡ false) ⌝ }
     ensures { λ r. ⌜ Lays (sheet-of (unfolded (now (line .entry)))) (now (out .entry)) 0 (now (out .exit)) r ⌝ }
 {
-    let b = bounds;
-    let name = super::texts::column(line, 0, b.reference_sequence_name_end);
-    let source = super::texts::column(line, b.reference_sequence_name_end, b.source_end);
-    let kind = super::texts::column(line, b.source_end, b.type_end);
-    let score = super::texts::score(super::texts::column(line, b.end_end, b.score_end));
-    let mut at = sheet::lay_decoded_section(name, out, 0);
-    at = sheet::lay_decoded_section(source, out, at);
-    at = sheet::lay_decoded_section(kind, out, at);
-    at = sheet::lay_section(score, out, at);
-    at = sheet::lay_count(count, out, at);
-    lay_attributes(scan::part(line, b.phase_end, line.len()), out, at)
+    let name = columns::text_in(line, bounds, Column::ReferenceSequenceName);
+    let source = columns::text_in(line, bounds, Column::Source);
+    let kind = columns::text_in(line, bounds, Column::Ty);
+    let score = judging::score(columns::text_in(line, bounds, Column::Score));
+    let mut at = sections::lay_decoded_section(name, out, 0);
+    at = sections::lay_decoded_section(source, out, at);
+    at = sections::lay_decoded_section(kind, out, at);
+    at = sections::lay_section(score, out, at);
+    at = sections::lay_count(count, out, at);
+    lay_attributes(columns::text_in(line, bounds, Column::Attributes), out, at)
 }
 
 // Lays the sheet of a line at the start of a buffer, and answers the numbers beside it. Refusals, in order: 24, over 4,194,304 bytes; 1;
@@ -108,7 +109,7 @@ fn lay_sheet(line: &[u8], bounds: Bounds, count: usize, out: &mut [u8]) -> usize
 pub fn unfold(line: &[u8], out: &mut [u8]) -> Unfolded
     ensures { λ r. ⌜ Unfolds (now (line .entry)) (now (out .entry)) (now (out .exit)) r ⌝ }
 {
-    match super::judging::measure(line) {
+    match judging::measure(line) {
         Measured::Is(numbers, bounds, count, length) => {
             if out.len() < length {
                 return Unfolded::NoRoom(length);

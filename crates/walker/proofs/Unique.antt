@@ -17,7 +17,7 @@ use denote.Triple.Clauses.{AtExit}
 use denote.Triple.Walked.{says}
 use Rattle.lists.proofs.One.{OneResult}
 use Rattle.attributes.specs.declared.field.Step.{Step}
-use Rattle.attributes.specs.declared.lookup.Found.{Found}
+use Rattle.lookup.specs.declared.Found.{Found}
 use Rattle.walker.specs.declared.Attributes.{Attributes}
 use Rattle.walker.proofs.walk_over as walk-over
 use Rattle.walker.proofs.next as next

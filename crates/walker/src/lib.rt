@@ -4,10 +4,10 @@
 //
 // Proved: a walker starts at 0, answers the attribute at its own place in its own column, moves to the place given, and looks a tag up in
 // its column; each promise allows one result. Assumes nothing.
-use attributes::Found;
 use attributes::Step;
+use lookup::Found;
 ghost use mathlib.Core.Path.{_≡_};
-ghost use Rattle.attributes.specs.Lookup.{lookup};
+ghost use Rattle.lookup.specs.Lookup.{lookup};
 ghost use Rattle.attributes.specs.Step.{stepOf};
 
 // Column 9, and where the next attribute begins. Any place is allowed: `next_field` says what stands at one beyond the column.
@@ -47,7 +47,7 @@ pub fn moved<'a>(walker: Attributes<'a>, at: usize) -> Attributes<'a>
 pub fn get<'a, 'b>(walker: Attributes<'a>, tag: &'b [u8]) -> Found
     ensures { λ r. ⌜ r ≡ lookup (now (walker .entry .column)) (now (tag .entry)) ⌝ }
 {
-    attributes::find_tag(walker.column, tag)
+    lookup::find_tag(walker.column, tag)
 }
 
 // The first attribute of a column, by a walker that is made and dropped here.

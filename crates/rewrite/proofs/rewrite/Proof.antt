@@ -4,7 +4,7 @@ use native.Mathlib.Omega.{arith}
 use borrow.Author.Needs.{needs}
 use mathlib.Core.Path.{_≡_}
 use lib.ListN.{length}
-use Rattle.lines.proofs.StepLaws.{Hands, means}
+use Rattle.splitter.proofs.StepLaws.{Hands, means}
 use Rattle.rewrite.proofs.rewrite.Statement.{statement}
 use Rattle.rewrite.proofs.rewrite.Tie as tie
 

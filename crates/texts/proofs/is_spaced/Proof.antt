@@ -1,5 +1,5 @@
 -- `is_spaced` answers whether the text holds white space. Assumes nothing.
-use Rattle.scan.specs.Word.{isSpace}
+use Rattle.words.specs.Word.{isSpace}
 use Rattle.texts.proofs.TextLaws.{holds-seek}
 use Rattle.texts.proofs.is_spaced.Statement.{statement}
 use Rattle.texts.proofs.is_spaced.Tie as tie

@@ -42,17 +42,17 @@ use denote.Triple.Table.{entered, cited}
 use denote.Triple.Walked.{says, Stays, stay-none, stay-none-slice, walkOf, goes-none, goes-none-slice, Walks, ends-at, walked, walk-meets}
 use denote.Exit.{yes}
 use denote.Triple.Clauses.{ensured, lasts}
-use Rattle.attributes.specs.Lookup.{lookup}
+use Rattle.lookup.specs.Lookup.{lookup}
 use Rattle.walker.specs.declared.Attributes.{Attributes}
-use Rattle.attributes.specs.declared.lookup.Found.{Found}
+use Rattle.lookup.specs.declared.Found.{Found}
 use Rattle.walker.proofs.Attributes as T
 use Rattle.walker.proofs.Attributes.Laws as T′
-use Rattle.attributes.proofs.lookup.Found as S
-use Rattle.attributes.proofs.lookup.Found.Laws as S′
-use Rattle.attributes.proofs.find_tag as find
-use Rattle.attributes.proofs.find_tag.Symbol as find-def
-use Rattle.attributes.proofs.find_tag.Symbol.{name as #attributes·find-tag}
-use Rattle.attributes.proofs.find_tag.Met as find-thm
+use Rattle.lookup.proofs.Found as S
+use Rattle.lookup.proofs.Found.Laws as S′
+use Rattle.lookup.proofs.find_tag as find
+use Rattle.lookup.proofs.find_tag.Symbol as find-def
+use Rattle.lookup.proofs.find_tag.Symbol.{name as #lookup·find-tag}
+use Rattle.lookup.proofs.find_tag.Met as find-thm
 use Rattle.walker.proofs.get.Key.{name as #walker·get}
 use Rattle.walker.proofs.get as get
 use Rattle.walker.proofs.get.Statement as stated
@@ -145,7 +145,7 @@ module _ {M : Type 1} (𝓤 : URA M) (H : Heap 𝓤) (A : Atoms 𝓤) (W : Given
       suffices ! _ (ends-at 𝓤 H A get.ended stayed (get.clauses 𝓤 H A mem run) W ((κs, (q, (q′, tt)), tt, (d, (g, tt)), at), tt) u r (tt, (tt, tt)) (tt, (tt, tt))) $ says ! e $
       move ! (1 ∷ []) $ frame ! $ move ! (1 ∷ []) $ frame ! $ done !
 
-  module _ (C : Calls 𝓤 H) (Λ : Loops 𝓤 H) (fm : FmC 𝓤 H (W .laws) C) (known : Triple 𝓤 (C #attributes·find-tag) (FindTag 𝓤 H A mem run)) where
+  module _ (C : Calls 𝓤 H) (Λ : Loops 𝓤 H) (fm : FmC 𝓤 H (W .laws) C) (known : Triple 𝓤 (C #lookup·find-tag) (FindTag 𝓤 H A mem run)) where
     walk : Holds (hasTy (T′.mir (named 0)) mach) × WT mach → Is (ShrSlice (named 1) κ′ u8) g (v′ ∷ []) → ent 𝓤 (onEntry 𝓤 H A get.signature κs (q, (q′, tt)) (d, (g, tt)) at) (WpFn 𝓤 H C Λ code.function (mach ∷ v′ ∷ []) Post)
     walk wt p =
         qed W (raw (onEntry 𝓤 H A get.signature κs (q, (q′, tt)) (d, (g, tt)) at) ∷ []) ∵ enter ! C Λ code.function (mach ∷ v′ ∷ []) _ $
@@ -162,13 +162,13 @@ module _ {M : Type 1} (𝓤 : URA M) (H : Heap 𝓤) (A : Atoms 𝓤) (W : Given
         move ! (9 ∷ 10 ∷ []) $ free1 ! $ move ! (7 ∷ 8 ∷ []) $ free1 ! $ move ! (5 ∷ 6 ∷ []) $ free1 ! $ move ! (3 ∷ 4 ∷ []) $ free1 ! $ free0 ! $ by ! (exits r u e)))))))))
 
 module _ {M : Type 1} (𝓤 : URA M) (H : Heap 𝓤) (A : Atoms 𝓤) (W : Given 𝓤 H A) (mem : Memory → SProp 𝓤) (run : Routine → Fun 𝓤) where
-  get-walks : (C : Calls 𝓤 H) (Λ : Loops 𝓤 H) → FmC 𝓤 H (W .laws) C → Triple 𝓤 (C #attributes·find-tag) (FindTag 𝓤 H A mem run)
+  get-walks : (C : Calls 𝓤 H) (Λ : Loops 𝓤 H) → FmC 𝓤 H (W .laws) C → Triple 𝓤 (C #lookup·find-tag) (FindTag 𝓤 H A mem run)
       → Walks 𝓤 H A get.ended stayed (WpFn 𝓤 H C Λ code.function) (get.clauses 𝓤 H A mem run)
   get-walks C Λ fm known = walked 𝓤 H A get.ended stayed (get.clauses 𝓤 H A mem run) (WpFn 𝓤 H C Λ code.function) (λ κs. (LL.vals (D κs) (L κs), (slice-vals, tt))) (λ κs. (LL.tells (D κs) (L κs), (shr-slice-tells (named 1) (κs .1 .0) u8, tt)))
       (λ κs qs bounds a g are. via 𝓤 _ (fst∗ 𝓤 _ (emp 𝓤)) (walk 𝓤 H A W mem run (κs .0) (κs .1 .0) (qs .0) (qs .1 .0) (a .0) (a .1 .0) C Λ fm known (LL.lawful (D κs) (L κs) 𝓤 H A W .typed (a .0) _ (are .0) .0) (are .1 .0)))
 
 get-meets : {M : Type 1} (𝓤 : URA M) (H : Heap 𝓤) (A : Atoms 𝓤) (W : Given 𝓤 H A) (mem : Memory → SProp 𝓤) (run : Routine → Fun 𝓤) (𝓣 : Tables 𝓤 H)
-    → Triple 𝓤 (𝓣 .C #attributes·find-tag) (FindTag 𝓤 H A mem run)
+    → Triple 𝓤 (𝓣 .C #lookup·find-tag) (FindTag 𝓤 H A mem run)
     → Meets 𝓤 H A get.signature (WpFn 𝓤 H (𝓣 .C) (𝓣 .Λ) code.function) (get.spec 𝓤 H A mem run)
 get-meets 𝓤 H A W mem run 𝓣 known-find = walk-meets 𝓤 H A get.ended stayed W (goes-none 𝓤 H A W 2 B yes (λ κs x f. refl), (goes-none-slice 𝓤 H A W 2 (1 ∷ []) tt (plain (λ _. u8)) yes, tt)) (get.clauses 𝓤 H A mem run) (WpFn 𝓤 H (𝓣 .C) (𝓣 .Λ) code.function) (WpFn-mono 𝓤 H (W .laws) 𝓣 code.function)
     (get-walks 𝓤 H A W mem run (𝓣 .C) (𝓣 .Λ) (fmOf 𝓤 H (W .laws) 𝓣) known-find)
@@ -179,4 +179,4 @@ get-spec 𝓤 H 𝓜 𝓖 𝓡 =
     entered 𝓤 H (tripleOf 𝓤 H (𝓖 .A) get.signature (get.spec 𝓤 H (𝓖 .A) (𝓜 .mem) (𝓡 .run)))
     (tables 𝓤 H 𝓜 𝓡 code.env .C) (tables 𝓤 H 𝓜 𝓡 code.env .Λ) #walker·get code.function (code.unfolded 𝓤 H 𝓜 𝓡)
     (get-meets 𝓤 H (𝓖 .A) (givenOf 𝓤 H 𝓜 𝓖) (𝓜 .mem) (𝓡 .run) (tablesOf 𝓤 H 𝓜 (tables 𝓤 H 𝓜 𝓡 code.env))
-    (cited 𝓤 H (FindTag 𝓤 H (𝓖 .A) (𝓜 .mem) (𝓡 .run)) 𝓜 𝓡 code.env #attributes·find-tag find-def.routine code.calls-attributes·find-tag (find-thm.met 𝓤 H 𝓜 𝓖 𝓡)))
+    (cited 𝓤 H (FindTag 𝓤 H (𝓖 .A) (𝓜 .mem) (𝓡 .run)) 𝓜 𝓡 code.env #lookup·find-tag find-def.routine code.calls-lookup·find-tag (find-thm.met 𝓤 H 𝓜 𝓖 𝓡)))

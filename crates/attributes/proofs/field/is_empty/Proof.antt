@@ -5,7 +5,7 @@ use mathlib.Core.Bool.{true}
 use mathlib.Core.List.{List, [], _∷_}
 use Prim.Native.Nat.{ℕ}
 use lib.ListN.{length}
-use Rattle.scan.specs.Same.{isDot}
+use Rattle.words.specs.Same.{isDot}
 use Rattle.attributes.specs.Attributes.{isEmpty}
 use Rattle.attributes.proofs.field.is_empty.Statement.{statement}
 use Rattle.attributes.proofs.field.is_empty.Tie as tie

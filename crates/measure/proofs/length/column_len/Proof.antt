@@ -5,8 +5,8 @@ use borrow.Author.Needs.{needs}
 use mathlib.Core.Path.{ap, sym, _∙_}
 use mathlib.Core.List.{map}
 use lib.ListN.{length}
-use Rattle.percent.specs.declared.set.Set.the-variants.{Attribute}
-use Rattle.percent.specs.Sets.{escapes}
+use Rattle.sets.specs.declared.Set.the-variants.{Attribute}
+use Rattle.sets.specs.Sets.{escapes}
 use Rattle.attributes.specs.Written.{written, column}
 use Rattle.sheet.specs.Sheet.{read-attribute}
 use Rattle.sheet.proofs.CursorLaws.{CountHands, count-meets}

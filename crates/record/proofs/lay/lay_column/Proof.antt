@@ -2,8 +2,8 @@
 use native.Mathlib.Omega.{arith}
 use borrow.Author.Needs.{needs}
 use mathlib.Core.Path.{sym, _∙_}
-use Rattle.percent.specs.declared.set.Set.the-variants.{Attribute}
-use Rattle.percent.specs.Sets.{escapes}
+use Rattle.sets.specs.declared.Set.the-variants.{Attribute}
+use Rattle.sets.specs.Sets.{escapes}
 use Rattle.attributes.specs.Written.{column}
 use Rattle.buffer.proofs.LaidLaws.{lays-then}
 use Rattle.sheet.specs.Sheet.{read-attribute}

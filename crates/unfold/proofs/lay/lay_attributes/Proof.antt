@@ -8,8 +8,8 @@ use lib.ListN.{length}
 use Rattle.buffer.proofs.LaidLaws.{Left, left-start, lays-rest, lays-length, none-left}
 use Rattle.attributes.specs.Attributes.{attributes, walk-from, walk}
 use Rattle.attributes.proofs.WalkLaws.{Hands, meets}
-use Rattle.unfold.specs.Unfold.{stuck}
-use Rattle.unfold.proofs.AttributesLaws.{rest, rest-next, rest-done, refused-stuck}
+use Rattle.judging.specs.Judge.{stuck}
+use Rattle.judging.proofs.AttributesLaws.{rest, rest-next, rest-done, refused-stuck}
 use Rattle.unfold.proofs.lay.lay_attributes.Statement.{statement}
 use Rattle.unfold.proofs.lay.lay_attributes.Tie as tie
 

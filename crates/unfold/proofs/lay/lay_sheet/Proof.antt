@@ -1,21 +1,19 @@
 -- `lay_sheet`: the sections one after the other. Assumes nothing.
-use Rattle.buffer.proofs.LaidLaws.{lays-then, lays-length}
-use Rattle.columns.specs.Columns.{end, ends, columnPlace}
-use Rattle.sheet.specs.Sheet.{counted-of, sheet-of}
-use Rattle.unfold.specs.Unfold.{unfolded}
+use Rattle.buffer.proofs.LaidLaws.{lays-length}
+use Rattle.judging.specs.Judge.{unfolded}
+use Rattle.unfold.proofs.UnfoldLaws.{lays-sheet}
 use Rattle.unfold.proofs.lay.lay_sheet.Statement.{statement}
 use Rattle.unfold.proofs.lay.lay_sheet.Tie as tie
 
 lay-attributes-requires : tie.Need-lay-attributes-requires
-unfolding ends columnPlace
 lay-attributes-requires c κs =
     let l₅ = c .before .before .before .before in
     let l₁ = l₅ .before .before .before .before .before .before .before .before .before .before .before .before .before .before .before .before in
     let s = l₁ .before .before .before .before .before .before .before .before .before in
-    rw (c .before .part .ensures, s .pre .0) (s .pre .2)
+    rw (c .before .text-in5 .ensures .0, s .pre .0) (s .pre .2)
 
 returns : tie.Need-returns
-unfolding end ends columnPlace unfolded sheet-of counted-of
+unfolding unfolded
 returns c =
     let l₆ = c .before .before in
     let p = l₆ .before .before in
@@ -30,11 +28,12 @@ returns c =
     let name = source .before in
     let s = name .before .before .before in
     let own = s .pre .0 in
-    lays-then (rw (name .column .ensures .0, own) at (l₁ .lay-decoded-section .ensures))
-    (lays-then (rw (source .column2 .ensures .0, own) at (l₂ .lay-decoded-section2 .ensures))
-    (lays-then (rw (kind .column3 .ensures .0, own) at (l₃ .lay-decoded-section3 .ensures))
-    (lays-then (rw (score .score .ensures .0, score .before .column4 .ensures .0, own) at (l₄ .lay-section .ensures))
-    (lays-then (rw (s .pre .1) at (l₅ .lay-count .ensures)) (rw (p .part .ensures, own) at (l₆ .lay-attributes .ensures))))))
+    lays-sheet (unfolded (s .args .line .now)) (rw (name .text-in .ensures .0, own) at (l₁ .lay-decoded-section .ensures))
+    (rw (source .text-in2 .ensures .0, own) at (l₂ .lay-decoded-section2 .ensures))
+    (rw (kind .text-in3 .ensures .0, own) at (l₃ .lay-decoded-section3 .ensures))
+    (rw (score .score .ensures .0, score .before .text-in4 .ensures .0, own) at (l₄ .lay-section .ensures))
+    (rw (s .pre .1) at (l₅ .lay-count .ensures))
+    (rw (p .text-in5 .ensures .0, own) at (l₆ .lay-attributes .ensures))
 
 pub lay-sheet-spec : {M : Type 1} → statement M
 lay-sheet-spec =

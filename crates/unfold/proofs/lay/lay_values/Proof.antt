@@ -7,9 +7,9 @@ use mathlib.Core.List.{flatMap}
 use lib.ListN.{length}
 use Rattle.buffer.proofs.LaidLaws.{Left, left-start, lays-rest, lays-length, none-left}
 use Rattle.attributes.specs.Attributes.{values}
-use Rattle.attributes.proofs.ValueLaws.{Cuts, leaves}
+use Rattle.values.proofs.ValueLaws.{Cuts, leaves}
 use Rattle.sheet.specs.Sheet.{section-of}
-use Rattle.unfold.proofs.ValuesLaws.{coming, coming-start, coming-next, sections-next, sections-done}
+use Rattle.judging.proofs.ValuesLaws.{coming, coming-start, coming-next, sections-next, sections-done}
 use Rattle.unfold.proofs.lay.lay_values.Statement.{statement}
 use Rattle.unfold.proofs.lay.lay_values.Tie as tie
 

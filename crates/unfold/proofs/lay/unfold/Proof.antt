@@ -2,7 +2,7 @@
 use borrow.Author.Needs.{needs}
 use mathlib.Core.Path.{sym, _∙_}
 use Rattle.buffer.proofs.LaidLaws.{lays-length}
-use Rattle.unfold.proofs.MeasureLaws.{told, unstuck}
+use Rattle.judging.proofs.MeasureLaws.{told, unstuck}
 use Rattle.unfold.proofs.UnfoldLaws.{unfolds-refused, unfolds-no-room, unfolds-done}
 use Rattle.unfold.proofs.lay.unfold.Statement.{statement}
 use Rattle.unfold.proofs.lay.unfold.Tie as tie

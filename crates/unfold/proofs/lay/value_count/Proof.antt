@@ -7,8 +7,8 @@ use mathlib.Core.List.{map}
 use lib.ListN.{length}
 use Rattle.percent.specs.Percent.{decoded}
 use Rattle.attributes.specs.Attributes.{values}
-use Rattle.attributes.proofs.ValueLaws.{leaves}
-use Rattle.unfold.proofs.ValuesLaws.{coming, coming-start, coming-next, values-few}
+use Rattle.values.proofs.ValueLaws.{leaves}
+use Rattle.judging.proofs.ValuesLaws.{coming, coming-start, coming-next, values-few}
 use Rattle.unfold.proofs.lay.value_count.Statement.{statement}
 use Rattle.unfold.proofs.lay.value_count.Tie as tie
 

@@ -1,0 +1,18 @@
+// The field readers of a record: `Record`. Every reader takes a line and any bounds, and refuses 1 where they are not the line's own.
+//
+// Proved: each answer is the definition of specs/, in document 01's order of refusals. Assumes nothing.
+mod phase;
+mod position;
+mod score;
+mod strand;
+mod texts;
+
+pub use phase::phase_at;
+pub use position::end_at;
+pub use position::start_at;
+pub use score::ScoreRead;
+pub use score::score_at;
+pub use strand::strand_at;
+pub use texts::reference_sequence_name;
+pub use texts::source;
+pub use texts::ty;

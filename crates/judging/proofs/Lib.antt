@@ -1,0 +1,6 @@
+pub mod AttributesLaws
+pub mod JudgeLaws
+pub mod MeasureLaws
+pub mod ValuesLaws
+mod Samples
+mod Unique

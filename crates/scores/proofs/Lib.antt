@@ -1,0 +1,3 @@
+mod Samples
+pub mod ScoreLaws
+mod Unique

@@ -1,0 +1,3 @@
+mod Samples
+pub mod SetLaws
+mod Unique

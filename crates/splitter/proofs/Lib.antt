@@ -1,0 +1,4 @@
+pub mod LinesLaws
+pub mod StepLaws
+mod Samples
+mod Unique

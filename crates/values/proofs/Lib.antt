@@ -1,0 +1,3 @@
+pub mod PiecesLaws
+pub mod ValueLaws
+mod Unique

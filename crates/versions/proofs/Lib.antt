@@ -1,0 +1,3 @@
+mod Samples
+mod Unique
+pub mod VersionLaws

@@ -1,0 +1,12 @@
+// White space and words, and texts compared. Every function takes any bytes and numbers: a cursor beyond the text counts as at its end.
+//
+// Proved: each answer equals the plain definition of specs/. Assumes nothing.
+mod same;
+mod word;
+
+pub use same::is_dot;
+pub use same::is_same;
+pub use word::find_ink;
+pub use word::find_space;
+pub use word::is_space;
+pub use word::next_word;
