@@ -2,11 +2,11 @@
 //!
 //!     bench FILE [ROUNDS]
 //!
-//! Four passes over an annotation: splitting its lines; finding the columns of each record line; walking each column 9 to its
-//! end; writing each record again, by unfolding and writing here, and by the Rust's record and its writer. Lines and columns are
-//! cut before the pass that needs them. The two take turns, each time is the least of all rounds, and both must come to the same
-//! counts and sums; what they write is compared byte by byte before the passes. No buffer is cleared or filled within a pass,
-//! but for the Rust's vector, which is emptied before each record.
+//! Five passes over an annotation: splitting its lines; finding the columns of each record line; reading start, end, strand and
+//! phase of each, its columns found anew; walking each column 9 to its end; writing each record again, by unfolding and writing
+//! here, and by the Rust's record and its writer. Lines and columns are cut before the pass that needs them. The two take turns,
+//! each time is the least of all rounds, and both must come to the same counts and sums; what they write is compared byte by byte
+//! before the passes. No buffer is cleared or filled within a pass, but for the Rust's vector, which is emptied before each record.
 
 #[path = "../src/ours.rs"]
 #[expect(dead_code, reason = "the passes call some of the functions")]
@@ -54,12 +54,13 @@ fn main() -> ExitCode {
     let passes = [
         pass("lines", rounds, || split(&text), || rust::lines(&text)),
         pass("columns", rounds, || index(&lines), || rust::columns(&lines)),
+        pass("fields", rounds, || fields(&lines), || rust::fields(&lines)),
         pass("attributes", rounds, || walk(&columns), || rust::attributes(&columns)),
         pass("writing", rounds, || rewrite(&lines), || rust::records(&lines)),
     ];
 
     println!("{:<12} {:>10} {:>10} {:>10}", "pass", "ours", "Rust", "ours/Rust");
-    let mut all = Pass::named("all four");
+    let mut all = Pass::named("all five");
 
     for pass in passes {
         let pass = match pass {
@@ -192,6 +193,34 @@ fn index(lines: &[&[u8]]) -> Sum {
         if indexed.refused == 0 {
             count += 1;
             sum += indexed.bounds.ends.iter().map(|&end| end as u64).sum::<u64>();
+        }
+    }
+
+    (count, sum)
+}
+
+#[inline(never)]
+fn fields(lines: &[&[u8]]) -> Sum {
+    let (mut count, mut sum) = (0, 0);
+
+    for line in lines {
+        let indexed = ours::index(line);
+
+        if indexed.refused != 0 {
+            continue;
+        }
+
+        let bounds = indexed.bounds;
+        let numbers = [
+            ours::start(line, bounds),
+            ours::end(line, bounds),
+            ours::strand(line, bounds),
+            ours::phase(line, bounds),
+        ];
+
+        if numbers.iter().all(|number| number.refused == 0) {
+            count += 1;
+            sum += numbers.iter().map(|number| number.value).sum::<u64>();
         }
     }
 

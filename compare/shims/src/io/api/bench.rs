@@ -30,6 +30,19 @@ pub fn columns(lines: &[&[u8]]) -> (u64, u64) {
     (count, sum)
 }
 
+/// Records whose four numbers are read, and the sum of starts, ends, strands and phases: `numbers` of record.rs on each line.
+#[inline(never)]
+pub fn fields(lines: &[&[u8]]) -> (u64, u64) {
+    let (mut count, mut sum) = (0, 0);
+
+    for numbers in lines.iter().filter_map(|line| record::numbers(line)) {
+        count += 1;
+        sum += numbers.iter().sum::<u64>();
+    }
+
+    (count, sum)
+}
+
 /// Attributes, and the sum of the lengths of their raw tags and values, up to a refusal in each column.
 /// Calls `next` of record/attributes/field.rs on each column, `.` being text like any other.
 #[inline(never)]

@@ -97,6 +97,21 @@ pub fn phase(line: &[u8]) -> Result<u8, u8> {
     }
 }
 
+/// Start, end, strand and phase of one record, or nothing where one of them is refused. Calls `Record::try_new`, and `Record::start`,
+/// `end`, `strand` and `phase` of record.rs.
+pub fn numbers(line: &[u8]) -> Option<[u64; 4]> {
+    let record = record(line).ok()?;
+    let (start, end) = (record.start().ok()?, record.end().ok()?);
+    let phase = record.phase().transpose().ok()?;
+
+    Some([
+        usize::from(start) as u64,
+        usize::from(end) as u64,
+        record.strand().ok()? as u64,
+        phase.map_or(3, |phase| phase as u64),
+    ])
+}
+
 /// `Record::try_new` of record.rs; 1.
 pub(super) fn record(line: &[u8]) -> Result<Record<'_>, u8> {
     Record::try_new(line).map_err(|_| 1)
