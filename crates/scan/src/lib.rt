@@ -1,6 +1,5 @@
-// Finding bytes in a slice. Everything above that cuts a text, at line feeds, tabs, `=`, `;`, `,`, `%` or white space, goes through
-// this crate, so it is built for speed: 16 bytes at a time. Every function takes any numbers: a cursor beyond the text counts as at
-// its end.
+// Finding bytes in a slice. Everything above that cuts a text, at line feeds, tabs, `=`, `;`, `,` or `%`, goes through this crate, so it is
+// built for speed: 16 bytes at a time. Every function takes any numbers: a cursor beyond the text counts as at its end.
 //
 // Proved: each answer equals the plain definition of specs/, byte by byte. Assumes nothing.
 mod mask;

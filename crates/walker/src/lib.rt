@@ -1,6 +1,7 @@
 // `Attributes`: a walker that keeps the lent column it walks and its place in it. Each function takes the walker apart and leaves the work
-// to one of `attributes`, on a slice and a cursor. A function over a struct that holds a reference is proved by hand, step by step of its
-// code, so there are few, and none has a branch or a loop; `first_field` takes a plain slice, so its callers need no such proof.
+// to one of `attributes` or `lookup`, on a slice and a cursor or a tag. A function over a struct that holds a reference is proved by hand,
+// step by step of its code, so there are few, and none has a branch or a loop; `first_field` takes a plain slice, so its callers need no
+// such proof.
 //
 // Proved: a walker starts at 0, answers the attribute at its own place in its own column, moves to the place given, and looks a tag up in
 // its column; each promise allows one result. Assumes nothing.

@@ -1,4 +1,4 @@
--- `walker::get` meets its contract: a walk of its MIR, by hand. The struct's slice is taken out, and `attributes::find_tag` is called on it and the tag. All that the proof knows of `find_tag` is that it meets its contract.
+-- `walker::get` meets its contract: a walk of its MIR, by hand. The struct's slice is taken out, and `lookup::find_tag` is called on it and the tag. All that the proof knows of `find_tag` is that it meets its contract.
 -- Both parameters are Copy: what each owns is had twice, one copy is kept whole for the exit, and of the other what column and the tag own goes to the callee, beside the lifetimes' tokens, which come back.
 -- Assumes nothing.
 use mathlib.Core.Path.{_≡_, refl}
