@@ -28,8 +28,8 @@ use Rattle.sheet.proofs.LengthLaws.{length-sheet}
 use Rattle.judging.specs.declared.judging.Numbers.{Numbers}
 use Rattle.judging.specs.declared.judging.Measured.the-variants.{Is, Refused}
 use Rattle.judging.specs.declared.judging.Size.the-variants as size
-use Rattle.judging.specs.Judge.{scoreOf, got, unfolded, numbers-of, noScore, stuck, unfold-reasons}
-use Rattle.judging.specs.Measure.{texts-length, sized, field-reasons, measured-by, measured}
+use Rattle.judging.specs.Judge.{scoreOf, got, unfolded, numbers-of, noScore, stuck, field-reasons, unfold-reasons}
+use Rattle.judging.specs.Measure.{texts-length, sized, measured-by, measured}
 use Rattle.judging.proofs.AttributesLaws.{attributes-few}
 
 -- ── the fields, in their order ────────────────────────────────────────────────────────────────

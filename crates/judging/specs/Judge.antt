@@ -98,18 +98,20 @@ abbrev pub stuck : Option (List Attribute) → Bool
 stuck none = true
 stuck (some l) = false
 
--- "24, 1, 2 (start, end), 17, 3, 4, 5"; 22 comes after them
-abbrev pub unfold-reasons : List ℕ → List Reason
-unfold-reasons s =
-    (24 when ltb 4194304 (length s))
-    ∷ (1 when not (isRecord s))
-    ∷ (2 when noPosition (positionText (columnText column.Start s)))
+-- of a line that has its columns: "2 (start, end), 17, 3, 4, 5"
+abbrev pub field-reasons : List ℕ → List Reason
+field-reasons s =
+    (2 when noPosition (positionText (columnText column.Start s)))
     ∷ (2 when noPosition (positionText (columnText column.End s)))
     ∷ (17 when noScore (columnText column.Score s))
     ∷ (3 when noStrand (strandText (columnText column.Strand s)))
     ∷ (4 when noPhase (phaseText (columnText column.Phase s)))
     ∷ (5 when stuck (attributes (walk (columnText column.Attributes s))))
     ∷ []
+
+-- "24, 1" before them; 22 comes after
+abbrev pub unfold-reasons : List ℕ → List Reason
+unfold-reasons s = (24 when ltb 4194304 (length s)) ∷ (1 when not (isRecord s)) ∷ field-reasons s
 
 -- ── the answers ──
 

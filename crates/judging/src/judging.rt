@@ -17,8 +17,8 @@ ghost use Rattle.columns.specs.Columns.{ends};
 ghost use Rattle.attributes.specs.Attributes.{values, attribute, attributes, walk};
 ghost use Rattle.sheet.specs.Sheet.{section-of, counted-of, attribute-of};
 ghost use Rattle.buffer.specs.Answer.{first};
-ghost use Rattle.judging.specs.Judge.{unfolded, judged};
-ghost use Rattle.judging.specs.Measure.{texts-length, sized, field-reasons, measured-by, measured};
+ghost use Rattle.judging.specs.Judge.{unfolded, field-reasons, judged};
+ghost use Rattle.judging.specs.Measure.{texts-length, sized, measured-by, measured};
 
 // The longest line that is unfolded.
 const LONGEST: usize = 4194304;
