@@ -1,4 +1,4 @@
-/* GFF3 lines, read and written with proof: the crates export_lines to export_write state what each call answers.
+/* GFF3 lines, read and written with proof: the crates c_lines to c_write state what each call answers.
  *
  * Every function takes any bytes and numbers, ends, and keeps nothing: there is no state, and any number of threads may call. A pointer
  * may be null where its length is 0. An output buffer may not overlap a text of the same call.

@@ -1,8 +1,8 @@
-//! Makes the list that the program `replay` replays: cases, and the answers that the Rust gives to them.
+//! Makes the list that the program `program_replay` replays: cases, and the answers that the Rust gives to them.
 //!
 //!     vectors CASES ANSWERS
 //!
-//! Each case is a line, a letter and its words; crates/replay/src says what the letters are. The list is cut into blocks of
+//! Each case is a line, a letter and its words; crates/program_replay/src says what the letters are. The list is cut into blocks of
 //! 65,536 bytes, which end in blank lines, since the program reads one block at a time.
 
 mod leaves;

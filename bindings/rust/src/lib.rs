@@ -6,7 +6,7 @@
 //!
 //! To change a record, it is taken apart into a [`Sheet`], which owns its texts, decoded, and writes the line anew.
 //!
-//! The answers are those of a library of proved functions, which this crate links: see the crates `export_lines` to `export_write`.
+//! The answers are those of a library of proved functions, which this crate links: see the crates `c_lines` to `c_write`.
 //!
 //! ```
 //! let text = b"##gff-version 3\nsq0\tlab\tgene\t8\t13\t.\t+\t.\tID=g%2C1\n";

@@ -1,0 +1,34 @@
+-- Laws of `Every`. Assumes nothing.
+use Prim.Native.Nat.{ℕ}
+use mathlib.Core.Path.{_≡_, sym, ap, _∙_}
+use mathlib.Core.Logic.{_≢_}
+use mathlib.Core.Bool.{Bool, true, false, true≢false}
+use mathlib.Core.List.{List, [], _∷_, _++_, map}
+use Rattle.base_lists.specs.Bytes.{Every, Lacks}
+
+pub every-append {ℓ} : {A : Type ℓ} (P : A → Type 0) (a b : List A) → Every P a → Every P b → Every P (a ++ b)
+every-append P [] b p q = q
+every-append P (x ∷ a) b p q = (p .0, every-append P a b (p .1) q)
+
+pub every-map : {A B : Type 0} (f : A → B) (P : A → Type 0) (Q : B → Type 0) → ((a : A) → P a → Q (f a)) → (l : List A) → Every P l
+    → Every Q (map f l)
+every-map f P Q k [] h = tt
+every-map f P Q k (a ∷ l) h = (k a (h .0), every-map f P Q k l (h .1))
+
+-- what follows for each
+pub every-each : {A : Type 0} (P Q : A → Type 0) → ((a : A) → P a → Q a) → (l : List A) → Every P l → Every Q l
+every-each P Q k [] h = tt
+every-each P Q k (a ∷ l) h = (k a (h .0), every-each P Q k l (h .1))
+
+-- a byte that fails a test is none of those that pass it
+pub every-lacks : (test : ℕ → Bool) (c : ℕ) → test c ≡ false → (s : List ℕ) → Every (λ x. test x ≡ true) s → Lacks c s
+every-lacks test c fails = every-each (λ x. test x ≡ true) (λ x. x ≢ c) (λ x h e. true≢false (sym h ∙ ap test e ∙ fails))
+
+-- what is so of each is so of the first ones and of the last ones
+pub every-right : {A : Type 0} (P : A → Type 0) (a b : List A) → Every P (a ++ b) → Every P b
+every-right P [] b h = h
+every-right P (x ∷ a) b h = every-right P a b (h .1)
+
+pub every-parts : {A : Type 0} (P : A → Type 0) (a b c : List A) → Every P (a ++ (b ++ c)) → Every P a × Every P c
+every-parts P [] b c h = (tt, every-right P b c h)
+every-parts P (x ∷ a) b c h = let r = every-parts P a b c (h .1) in ((h .0, r .0), r .1)

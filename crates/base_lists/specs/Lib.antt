@@ -1,0 +1,4 @@
+pub mod Bit
+pub mod Bytes
+pub mod Limits
+pub mod Steps

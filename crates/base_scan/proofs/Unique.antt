@@ -1,0 +1,19 @@
+-- Each public function's promise allows one result and one content of a lent buffer. Assumes nothing.
+use mathlib.Core.Path.{sym, _∙_}
+use denote.Ref.{now}
+use Rattle.base_lists.proofs.One.{OneResult, OneShown}
+use Rattle.base_scan.proofs.find.Kinds as find-kinds
+use Rattle.base_scan.proofs.find.Reads as find
+use Rattle.base_scan.proofs.place.part.Kinds as part-kinds
+use Rattle.base_scan.proofs.place.part.Reads as part
+use Rattle.base_scan.proofs.place.text.Kinds as text-kinds
+use Rattle.base_scan.proofs.place.text.Reads as text
+
+find-one : OneResult 1 find-kinds.ps find-kinds.r find.Post
+find-one κs a x y s t p q = p .0 ∙ sym (q .0)
+
+part-one : OneShown 1 part-kinds.ps part-kinds.r part.Post (λ κs x. now x)
+part-one κs a x y s t p q = p ∙ sym q
+
+text-one : OneShown 1 text-kinds.ps text-kinds.r text.Post (λ κs x. now x)
+text-one κs a x y s t p q = p ∙ sym q

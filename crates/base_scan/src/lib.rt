@@ -1,0 +1,74 @@
+// Finds a tab, a line feed, a `;` or any other byte in a text, 16 bytes at a time, and cuts parts out of a text.
+// In the Rust: memchr.
+//
+// Everything above that cuts a text, at line feeds, tabs, `=`, `;`, `,` or `%`, goes through this crate, so it is built for speed. Every
+// function takes any numbers: a cursor beyond the text counts as at its end.
+//
+// Proved: each answer equals the plain definition of specs/, byte by byte. Assumes nothing.
+mod mask;
+mod place;
+
+ghost use mathlib.Core.Path.{_≡_};
+ghost use Prim.Native.Nat.{_≤_};
+ghost use lib.ListN.{length};
+ghost use Rattle.base_scan.specs.Find.{found};
+pub use place::Place;
+pub use place::part;
+pub use place::text;
+
+// Byte by byte: for a text too short for a window.
+fn find_few(s: &[u8], at: usize, b: u8) -> usize
+    ensures { λ r. ⌜ r ≡ found b at (now (s .entry)) ⌝ }
+{
+    let mut i = at;
+    while i < s.len() {
+        if s[i] == b {
+            return i;
+        }
+        i += 1;
+    }
+    s.len()
+}
+
+// By windows of 16 bytes; the last one overlaps the one before it, and its lowest digits are shifted out.
+fn find_many(s: &[u8], at: usize, b: u8) -> usize
+    requires { ⌜ 16 ≤ length (now s) ⌝ }
+    ensures { λ r. ⌜ r ≡ found b at (now (s .entry)) ⌝ }
+{
+    let n = s.len();
+    let last = n - 16;
+    let mut i = at;
+    while i <= last {
+        let m = mask::mask16(s, i, b);
+        if m != 0 {
+            return i + u32::trailing_zeros(m) as usize;
+        }
+        i += 16;
+    }
+    if i < n {
+        let m = mask::mask16(s, last, b) >> ((i - last) as u32);
+        if m != 0 {
+            return i + u32::trailing_zeros(m) as usize;
+        }
+    }
+    n
+}
+
+// The first index from `at` where the text has b, or its length where there is none: `find(b"a=b", 0, b'=')` is 1, and
+// `find(b"a=b", 2, b'=')` and `find(b"a=b", 9, b'=')` are 3. The slice is taken anew, `&given[..n]`, so that LLVM passes its pointer
+// and its length in registers.
+pub fn find(given: &[u8], at: usize, b: u8) -> usize
+    ensures first { λ r. ⌜ r ≡ found b at (now (given .entry)) ⌝ }
+    ensures within { λ r. ⌜ r ≤ length (now (given .entry)) ⌝ }
+{
+    let n = given.len();
+    if n <= at {
+        return n;
+    }
+    let s = &given[..n];
+    if n < 16 {
+        find_few(s, at, b)
+    } else {
+        find_many(s, at, b)
+    }
+}

@@ -1,0 +1,141 @@
+// Gives C the walk over column 9, the values of an attribute, and an attribute by its tag.
+//
+// Proved: each struct is the library's definition of the answer, by one definition for each enum, which gives document 01's number and
+// values for each case. Every function takes any bytes and numbers. Assumes nothing.
+use read_attributes::Step;
+use read_lookup::Found;
+use read_values::NextValue;
+use read_values::ValueCursor;
+ghost use mathlib.Core.Path.{_≡_};
+ghost use Rattle.base_lists.specs.Bit.{bit};
+ghost use Rattle.read_attributes.specs.Attributes.{is-empty};
+ghost use Rattle.read_lookup.specs.Lookup.{find-tag};
+ghost use Rattle.read_attributes.specs.Step.{next-field};
+ghost use Rattle.read_values.specs.Step.{next-value};
+ghost use Rattle.c_attributes.specs.Attribute.{c-field, cursor-of-c, c-value, c-found};
+
+#[repr(C)]
+pub struct Gff3Field {
+    pub refused: u64,
+    pub done: u64,
+    pub tag_start: usize,
+    pub tag_end: usize,
+    pub value_start: usize,
+    pub value_end: usize,
+    pub next: usize,
+}
+
+#[repr(C)]
+pub struct Gff3Value {
+    pub done: u64,
+    pub start: usize,
+    pub end: usize,
+    pub next: usize,
+    pub out: u64,
+}
+
+#[repr(C)]
+pub struct Gff3Found {
+    pub refused: u64,
+    pub found: u64,
+    pub start: usize,
+    pub end: usize,
+}
+
+// The attribute at a cursor. Refusal 5.
+#[no_mangle]
+pub extern "C" fn gff3_next_field(column: &[u8], at: usize) -> Gff3Field
+    ensures { λ r. ⌜ r ≡ c-field (next-field (now (column .entry)) at) ⌝ }
+{
+    match read_attributes::next_field(column, at) {
+        Step::Is(field) => {
+            let tag = field.tag;
+            let value = field.value;
+            Gff3Field {
+                refused: 0,
+                done: 0,
+                tag_start: tag.start,
+                tag_end: tag.end,
+                value_start: value.start,
+                value_end: value.end,
+                next: field.next,
+            }
+        }
+        Step::Done => Gff3Field {
+            refused: 0,
+            done: 1,
+            tag_start: 0,
+            tag_end: 0,
+            value_start: 0,
+            value_end: 0,
+            next: 0,
+        },
+        Step::Refused => Gff3Field {
+            refused: 5,
+            done: 0,
+            tag_start: 0,
+            tag_end: 0,
+            value_start: 0,
+            value_end: 0,
+            next: 0,
+        },
+    }
+}
+
+// The next of the values of an attribute. The cursor is `at` and `out`; any number but 0 says that the last value is out.
+#[no_mangle]
+pub extern "C" fn gff3_next_value(value: &[u8], at: usize, out: u64) -> Gff3Value
+    ensures { λ r. ⌜ r ≡ c-value (next-value (now (value .entry)) (cursor-of-c at out)) ⌝ }
+{
+    match read_values::next_value(value, ValueCursor { at, out: out != 0 }) {
+        NextValue::Is(place, cursor) => Gff3Value {
+            done: 0,
+            start: place.start,
+            end: place.end,
+            next: cursor.at,
+            out: cursor.out as u64,
+        },
+        NextValue::Done => Gff3Value {
+            done: 1,
+            start: 0,
+            end: 0,
+            next: 0,
+            out: 0,
+        },
+    }
+}
+
+// The raw value of a tag. Refusal 5.
+#[no_mangle]
+pub extern "C" fn gff3_find_tag(column: &[u8], tag: &[u8]) -> Gff3Found
+    ensures { λ r. ⌜ r ≡ c-found (find-tag (now (column .entry)) (now (tag .entry))) ⌝ }
+{
+    match read_lookup::find_tag(column, tag) {
+        Found::At(place) => Gff3Found {
+            refused: 0,
+            found: 1,
+            start: place.start,
+            end: place.end,
+        },
+        Found::Absent => Gff3Found {
+            refused: 0,
+            found: 0,
+            start: 0,
+            end: 0,
+        },
+        Found::Refused => Gff3Found {
+            refused: 5,
+            found: 0,
+            start: 0,
+            end: 0,
+        },
+    }
+}
+
+// 1 where the column is a dot or has no byte.
+#[no_mangle]
+pub extern "C" fn gff3_no_attributes(column: &[u8]) -> u32
+    ensures { λ r. ⌜ r ≡ bit (is-empty (now (column .entry))) ⌝ }
+{
+    read_attributes::is_empty(column) as u32
+}

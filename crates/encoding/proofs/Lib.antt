@@ -1,3 +1,0 @@
-mod CursorLaws
-mod PlainLaws
-mod Unique

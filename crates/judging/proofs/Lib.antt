@@ -1,6 +1,0 @@
-pub mod AttributesLaws
-pub mod JudgeLaws
-pub mod MeasureLaws
-pub mod ValuesLaws
-mod Samples
-mod Unique

@@ -1,6 +1,0 @@
-pub mod BoolLaws
-pub mod CursorLaws
-pub mod EveryLaws
-pub mod One
-pub mod OrderLaws
-pub mod TableLaws

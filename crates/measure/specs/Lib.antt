@@ -1,3 +1,0 @@
-pub mod Judge
-pub mod Led
-pub mod Record

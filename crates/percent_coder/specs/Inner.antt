@@ -1,0 +1,2 @@
+-- What proofs need, and no public promise cites.
+pub mod Spells

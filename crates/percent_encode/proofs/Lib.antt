@@ -1,0 +1,2 @@
+mod CursorLaws
+mod Unique

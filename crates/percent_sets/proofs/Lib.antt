@@ -1,0 +1,4 @@
+pub mod ClassLaws
+mod Samples
+pub mod SetLaws
+mod Unique

@@ -1,0 +1,85 @@
+-- The demands, each proved by what it cites; specs/Demand.antt says them. Assumes nothing.
+use Prim.Native.Nat.{ℕ}
+use native.Mathlib.Omega.{arith}
+use mathlib.Core.Path.{_≡_, refl}
+use mathlib.Core.List.{List, [], _++_}
+use lib.ListN.{length}
+use Rattle.base_lists.specs.Bytes.{Every}
+use Rattle.write_decimals.specs.Decimal.{decimal}
+use Rattle.percent_sets.specs.declared.Set.the-variants as set
+use Rattle.percent_coding.specs.Percent.{decoded, encoded}
+use Rattle.percent_sets.specs.Sets.{escapes}
+use Rattle.percent_encode.specs.Encode.{encode-reasons}
+use Rattle.read_lines.specs.Step.{fresh}
+use Rattle.read_lines.proofs.StepLaws.{lines-met}
+use Rattle.percent_sets.proofs.SetLaws.{coder-of, bars-signs}
+use Rattle.read_columns.specs.Columns.{column-text}
+use Rattle.read_columns.proofs.ColumnsLaws.{row-record, row-text}
+use Rattle.read_fields.specs.Fields.{text-reasons}
+use Rattle.sheet_form.proofs.CursorLaws.{count-refused, section-refused}
+use Rattle.read_values.proofs.ValueLaws.{values-met}
+use Rattle.read_attributes.proofs.WalkLaws.{fields-met}
+use Rattle.read_attributes.proofs.WrittenLaws.{walk-column}
+use Rattle.write_comment.proofs.RoundTrip.{comment-back}
+use Rattle.write_directive.proofs.RoundTrip.{directive-back, typed-back}
+use Rattle.promise_demands.specs.Item.{Item, reasons-of, line-of, Accepted, ReadsBack}
+use Rattle.promise_demands.specs.Survivors.{lines-of, text-of, before, after}
+use Rattle.promise_demands.specs.Survival.{ByLines}
+use Rattle.promise_demands.specs.Demand.{Demand1, Demand2, Demand3, gff3, HandsOut, whole-text}
+use Rattle.promise_demands.proofs.AnswerLaws.{writes, item-numbered, unfold-answers, no-fields}
+use Rattle.promise_demands.proofs.ItemLaws.{sound, done-accepted}
+use Rattle.promise_demands.proofs.Stretch.{survival}
+
+-- every call has one answer, and a refused one changes nothing
+pub demand1 : Demand1
+demand1 =
+    record {
+      write = λ i. writes (reasons-of i) (line-of i) (item-numbered i);
+      encode = λ set s. writes (encode-reasons s) (encoded (escapes set) s) (omega arith, tt);
+      decode = λ s. writes [] (decoded s) tt;
+      write-decimal = λ n. writes [] (decimal n) tt;
+      text = λ c line b. writes (text-reasons line b) (decoded (column-text c line)) (omega arith, tt);
+      count = count-refused;
+      section = section-refused;
+      unfolds = unfold-answers;
+      no-field = no-fields;
+    }
+
+-- the definitions are what the documents say
+pub demand2 : Demand2
+demand2 =
+    record {
+      coded = coder-of;
+      cut = row-record;
+      columns = row-text;
+      walked = walk-column (coder-of set.Attribute) (bars-signs .0) (bars-signs .1) (bars-signs .2);
+      fields-met = fields-met;
+      values-met = values-met;
+      directive = directive-back;
+      typed = typed-back;
+      comment = comment-back;
+    }
+
+-- `next_line` hands out the lines of a text
+by-lines : ByLines whole-text
+by-lines = record { in-a-row = λ ls ms. refl; all-lines = λ s n h. lines-met n s fresh (omega arith) }
+
+-- what was written reads back where nothing touched it, whatever became of one stretch of the text
+pub demand3 : Demand3
+demand3 = record { survival = survival gff3 whole-text sound by-lines; written = done-accepted }
+
+-- ── demand 3 spelled out ──────────────────────────────────────────────────────────────────────
+
+-- of GFF3 items and `next_line`, without the words of specs/Survival.antt
+pub stretch-replaced : (items : List Item) → Every Accepted items → (a x b y : List ℕ) → text-of line-of items ≡ a ++ (x ++ b)
+    → (damaged : List (List ℕ))
+    × HandsOut (a ++ (y ++ b))
+    (lines-of line-of (before line-of (length a) items) ++ (damaged ++ lines-of line-of (after line-of (length b) items)))
+    × Every (λ i. ReadsBack i (line-of i)) (before line-of (length a) items)
+    × Every (λ i. ReadsBack i (line-of i)) (after line-of (length b) items)
+stretch-replaced items h a x b y cut =
+    let s = demand3 .survival .survive items h a x b y cut in (s .damaged, s .read, s .first-back, s .last-back)
+
+pub nothing-replaced : (items : List Item) → Every Accepted items
+    → HandsOut (text-of line-of items) (lines-of line-of items) × Every (λ i. ReadsBack i (line-of i)) items
+nothing-replaced = demand3 .survival .whole

@@ -1,0 +1,7 @@
+pub mod AnswerLaws
+pub mod Demands
+pub mod ItemLaws
+pub mod Samples
+pub mod Stretch
+pub mod SurvivorLaws
+mod Edges

@@ -1,0 +1,148 @@
+-- What the library as a whole is asked for, in words and in symbols; proofs/Demands.antt proves it. How the symbols read: `(x : A) → B` or
+-- `{x : A} → B` for every x of the kind A, B; `(x : A) × B` there is an x of the kind A such that B; `A × B` both; `≡` is; `≢` is not; `∷`
+-- followed by more; `++` followed by a text or list; `Every P l` P holds of each one in l; `ℕ` a number, a byte among them. Assumes nothing:
+-- these are definitions.
+use Prim.Native.Nat.{ℕ, _*_, _-_, _<_, _≤_}
+use mathlib.Core.Path.{_≡_}
+use mathlib.Core.Logic.{_≢_}
+use mathlib.Core.Bool.{true}
+use mathlib.Core.List.{List, [], _∷_, _++_}
+use mathlib.Core.Option.{Option, none, some}
+use lib.Dec.{ltb}
+use lib.ListN.{length, drop, getD}
+use Rattle.base_lists.specs.Bytes.{Every, Bytes, Lacks, comma, tab}
+use Rattle.base_buffer.specs.declared.Written.the-variants.{Done}
+use Rattle.base_buffer.specs.Answer.{Reason, _when_, refusal-of, number, Wrote}
+use Rattle.write_decimals.specs.Decimal.{decimal}
+use Rattle.percent_sets.specs.declared.Set.{Set}
+use Rattle.percent_sets.specs.declared.Set.the-variants as set
+use Rattle.percent_coding.specs.Percent.{decoded, encoded}
+use Rattle.percent_coder.specs.Coder.{Coder}
+use Rattle.percent_sets.specs.Sets.{escapes}
+use Rattle.percent_sets.specs.Bars.{bars}
+use Rattle.percent_encode.specs.Encode.{encode-reasons}
+use Rattle.read_lines.specs.Step.{fresh, line-steps}
+use Rattle.read_kind.specs.Reading.{ReadsComment, ReadsDirective}
+use Rattle.read_columns.specs.declared.bounds.Bounds.{Bounds}
+use Rattle.read_columns.specs.declared.column.Column.{Column}
+use Rattle.read_columns.specs.Columns.{has-columns, column-text, row-of, tabs-before}
+use Rattle.read_fields.specs.Fields.{text-reasons}
+use Rattle.read_attributes.specs.Attributes.{Attribute, walk-from, walk, attributes}
+use Rattle.read_values.specs.Pieces.{pieces}
+use Rattle.read_attributes.specs.Step as column9
+use Rattle.read_values.specs.Step as value
+use Rattle.read_attributes.specs.Written.{Writable, column}
+use Rattle.write_directive.specs.declared.directive.Value.{Value}
+use Rattle.write_comment.specs.Comment.{comment-reasons, comment-line}
+use Rattle.write_directive.specs.Directive.{directive-reasons, directive-line}
+use Rattle.write_directive.specs.Reading.{value-text, Sized, Back}
+use Rattle.sheet_form.specs.Reader.{form-refusal, read-count}
+use Rattle.sheet_form.specs.Cursor.{count-refusal, count-at, section-refusal, section-at}
+use Rattle.sheet_form.specs.Sheet as form
+use Rattle.sheet_form.specs.Sheet.{sheet-of}
+use Rattle.read_judge.specs.declared.judging.Numbers.{Numbers}
+use Rattle.read_judge.specs.Judge.{unfolded, unfold-reasons}
+use Rattle.read_record.specs.declared.lay.Unfolded.{Unfolded}
+use Rattle.read_record.specs.declared.lay.Unfolded.the-variants as outcome
+use Rattle.read_record.specs.Unfold.{as-written, Unfolds}
+use Rattle.promise_demands.specs.Item.{Item, line-of, reasons-of, Accepted, ReadsBack}
+use Rattle.promise_demands.specs.Survival.{Writing, Reading, Survival}
+
+-- ── demand 1 ──────────────────────────────────────────────────────────────────────────────────
+
+-- "Every call takes any bytes and numbers and ends, with an answer or with the refusal that document 01 names for that input. No caller has to
+-- check first. A refused call changes no byte of its output buffer and hands out no field."
+
+-- No function has a condition, each ends, and each promise allows one result: that stands with the functions, which docs/PROMISES.md lists.
+-- Here is what is common to all calls that are lent a buffer. P d d' r is the promise of such a call: that it may answer r, where its buffer
+-- held d before and holds d' after. Whatever d is, there is an answer, and one only. Its number is that of the first reason that holds, no
+-- room for so many bytes being the last reason, and 0 where none holds. Where it is not 0, the buffer holds what it held.
+pub record Answers {A : Type 0} (number-of : A → ℕ) (reasons : List Reason) (bytes : ℕ) (P : List ℕ → List ℕ → A → Type 0) : Type 0 where
+  pub some-answer : (d : List ℕ) → (d' : List ℕ) × (r : A) × P d d' r
+  pub one-answer : {d d₁ d₂ : List ℕ} {r₁ r₂ : A} → P d d₁ r₁ → P d d₂ r₂ → (r₁ ≡ r₂) × (d₁ ≡ d₂)
+  pub first-reason : {d d' : List ℕ} {r : A} → P d d' r → number-of r ≡ refusal-of (reasons ++ ((22 when ltb (length d) bytes) ∷ []))
+  pub unchanged : {d d' : List ℕ} {r : A} → P d d' r → number-of r ≢ 0 → d' ≡ d
+
+-- so of a function that writes a text
+abbrev pub Writes : List Reason → List ℕ → Type 0
+Writes reasons text = Answers number reasons (length text) (Wrote reasons text)
+
+-- the fields that an answer of `unfold` hands out
+unfoldable pub fields : Unfolded → Option Numbers
+fields (outcome.Done numbers n) = some numbers
+fields (outcome.Refused n) = none
+fields (outcome.NoRoom n) = none
+
+pub record Demand1 : Type 0 where
+  -- `write_record`, `write_directive`, `write_comment`
+  pub write : (i : Item) → Writes (reasons-of i) (line-of i)
+  -- `encode`, `decode`, `write_decimal`
+  pub encode : (set : Set) (s : List ℕ) → Writes (encode-reasons s) (encoded (escapes set) s)
+  pub decode : (s : List ℕ) → Writes [] (decoded s)
+  pub write-decimal : (n : ℕ) → Writes [] (decimal n)
+  -- `reference_sequence_name`, `source`, `ty`
+  pub text : (c : Column) (line : List ℕ) (b : Bounds) → Writes (text-reasons line b) (decoded (column-text c line))
+  -- `count_at`, `section_at`: 23 exactly where what stands from the cursor on is not of the form
+  pub count : (s : List ℕ) (at : ℕ) → count-refusal (count-at s at) ≡ form-refusal (read-count (drop at s))
+  pub section : (s : List ℕ) (at : ℕ) → section-refusal (section-at s at) ≡ form-refusal (form.section (drop at s))
+  -- `unfold`, which answers as a writer of the sheet, with the numbers beside it
+  pub unfolds : (line : List ℕ)
+      → Answers (λ r. number (as-written r)) (unfold-reasons line) (length (sheet-of (unfolded line))) (Unfolds line)
+  -- a refused answer holds no field; nor does that of a field reader, whose `Refused` holds its number alone
+  pub no-field : (r : Unfolded) → number (as-written r) ≢ 0 → fields r ≡ none
+
+-- ── demand 2 ──────────────────────────────────────────────────────────────────────────────────
+
+-- "On document 01's domain it equals the Rust, shown by runs. Columns, percent coding, attributes and directives are proved against
+-- definitions written from the GFF3 specification and RFC 3986."
+
+-- The runs are made by tools/compare. That a function answers its definition is its promise. Here are the laws that tie the definitions to
+-- the two documents; specs/Samples.antt has document 01's samples.
+pub record Demand2 : Type 0 where
+  -- RFC 3986, section 2: whichever set says what is escaped, decoding an encoded text gives it back; no byte of the set comes out but the
+  -- percent sign and hex digits; and a byte makes at most three
+  pub coded : (set : Set) → Coder (bars set) (encoded (escapes set))
+  -- GFF3, nine columns, split at tabs: eight columns without a tab, a tab behind each, and any rest are cut at these tabs, and read back
+  pub cut : (row : List (List ℕ)) (rest : List ℕ) → length row ≡ 8 → Every (Lacks tab) row → has-columns (row-of row rest) ≡ true
+  pub columns : (row : List (List ℕ)) (rest : List ℕ) → length row ≡ 8 → Every (Lacks tab) row → (c : Column)
+      → column-text c (row-of row rest) ≡ getD row (tabs-before c) rest
+  -- GFF3, column 9: tags and values escaped, `=` behind a tag, `,` between values, `;` between attributes; the walk gives them back
+  pub walked : (l : List Attribute) → Every Writable l → attributes (walk (column (encoded (escapes set.Attribute)) l)) ≡ some l
+  -- `next_field`, called from a cursor on, meets that walk, and `next_value` hands out a value's pieces between commas
+  pub fields-met : (n : ℕ) (s : List ℕ) (at : ℕ) → length s - at ≤ 2 * n → column9.field-steps n s at ≡ walk-from s at
+  pub values-met : (n : ℕ) (s : List ℕ) → length s < n → value.value-steps n s value.fresh ≡ pieces comma s
+  -- GFF3, directives and comments: what is written as one reads back, a directive's parts each, a typed value from its own reader
+  pub directive : (key : List ℕ) (value : Value) (first second : List ℕ) → refusal-of (directive-reasons key value first second) ≡ 0
+      → ReadsDirective (directive-line key value first second) key (value-text value first second)
+  pub typed : (key : List ℕ) (value : Value) (first second : List ℕ) → refusal-of (directive-reasons key value first second) ≡ 0
+      → Sized value → Back value first second
+  pub comment : (text : List ℕ) → refusal-of (comment-reasons text) ≡ 0 → ReadsComment (comment-line text) text
+
+-- ── demand 3 ──────────────────────────────────────────────────────────────────────────────────
+
+-- "Take any list of records, directives and comments the writer accepted, each line ended by a line feed. Replace any one stretch of that
+-- text by other bytes, of any length. Each item whose line, line feed included, lies before the stretch reads back exactly, given room,
+-- first and in order; so does each one that lies after it together with the line feed before it, last and in order. With nothing replaced
+-- the whole list reads back."
+
+-- specs/Survival.antt says this in symbols, for items of any kind and any way of reading. Here is for which.
+
+-- records, directives and comments, as their writers write them
+abbrev pub gff3 : Writing
+gff3 = record { Item = Item; line = line-of; Accepted = Accepted; ReadsBack = ReadsBack }
+
+-- `next_line`, called from a new cursor on until it is done, hands out exactly these lines of the text s, in this order; as many calls as s
+-- has bytes, or more, are enough
+abbrev pub HandsOut : List ℕ → List (List ℕ) → Type 0
+HandsOut s lines = (n : ℕ) → length s ≤ n → line-steps n s fresh ≡ lines
+
+-- so a whole text is read, and what is told of lines is these lines
+abbrev pub whole-text : Reading
+whole-text = record { Event = List ℕ; told = λ lines. lines; Reads = HandsOut }
+
+pub record Demand3 : Type 0 where
+  pub survival : Survival gff3 whole-text
+  -- "the writer accepted": where the writer of an item i is done, having been lent a buffer that held d and now holds d', no reason to
+  -- refuse i holds, and the buffer starts with the line that is meant above
+  pub written : (i : Item) (d d' : List ℕ) (n : ℕ) → Wrote (reasons-of i) (line-of i) d d' (Done n)
+      → (refusal-of (reasons-of i) ≡ 0) × (n ≡ length (line-of i)) × (d' ≡ line-of i ++ drop n d)

@@ -1,0 +1,5 @@
+pub mod Demand
+pub mod Item
+pub mod Samples
+pub mod Survival
+pub mod Survivors

@@ -1,0 +1,54 @@
+-- What the field readers answer: document 01, "Reading a line" and "Refusal numbers". A field reader refuses 1 where the bounds offered
+-- are not the line's own, then gives the field's own number (2, 17, 3 or 4), then 22 where it decodes into a buffer.
+-- Assumes nothing: these are definitions.
+use Prim.Native.Nat.{ℕ}
+use mathlib.Core.Bool.{cond, not}
+use mathlib.Core.List.{List, [], _∷_}
+use Rattle.base_words.specs.Same.{is-dot}
+use Rattle.base_scan.specs.declared.place.Place.{Place}
+use Rattle.base_buffer.specs.Answer.{Reason, _when_}
+use Rattle.read_tokens.specs.declared.position.PositionRead.{PositionRead}
+use Rattle.read_tokens.specs.declared.position.PositionRead.the-variants as position-read
+use Rattle.read_tokens.specs.declared.strand.StrandRead.{StrandRead}
+use Rattle.read_tokens.specs.declared.strand.StrandRead.the-variants as strand-read
+use Rattle.read_tokens.specs.declared.phase.PhaseRead.{PhaseRead}
+use Rattle.read_tokens.specs.declared.phase.PhaseRead.the-variants as phase-read
+use Rattle.read_tokens.specs.Tokens.{position-of, strand-of, phase-of}
+use Rattle.read_score.specs.Score.{is-score}
+use Rattle.read_columns.specs.declared.bounds.Bounds.{Bounds}
+use Rattle.read_columns.specs.declared.column.Column.{Column}
+use Rattle.read_columns.specs.declared.column.Column.the-variants as column
+use Rattle.read_columns.specs.Columns.{is-own, column-text, column-place}
+use Rattle.read_fields.specs.declared.score.ScoreRead.{ScoreRead}
+use Rattle.read_fields.specs.declared.score.ScoreRead.the-variants as score-read
+
+-- ── document 01's number of each refusal, and 0 where there is none ──
+
+abbrev pub score-refusal : ScoreRead → ℕ
+score-refusal score-read.Missing = 0
+score-refusal (score-read.Token place) = 0
+score-refusal (score-read.Refused n) = n
+
+-- ── a column's text, judged raw ──
+
+-- `.` is missing; else the whole text is the token, which stands at a place; else 17
+unfoldable pub score-of : List ℕ → Place → ScoreRead
+score-of s place = cond (is-dot s) score-read.Missing (cond (is-score s) (score-read.Token place) (score-read.Refused 17))
+
+-- ── the readers: 1 first, then the column ──
+
+unfoldable pub position-at : Column → List ℕ → Bounds → PositionRead
+position-at c s b = cond (is-own s b) (position-of (column-text c s)) (position-read.Refused 1)
+
+unfoldable pub score-at : List ℕ → Bounds → ScoreRead
+score-at s b = cond (is-own s b) (score-of (column-text column.Score s) (column-place column.Score s)) (score-read.Refused 1)
+
+unfoldable pub strand-at : List ℕ → Bounds → StrandRead
+strand-at s b = cond (is-own s b) (strand-of (column-text column.Strand s)) (strand-read.Refused 1)
+
+unfoldable pub phase-at : List ℕ → Bounds → PhaseRead
+phase-at s b = cond (is-own s b) (phase-of (column-text column.Phase s)) (phase-read.Refused 1)
+
+-- the texts are decoded into a buffer: 1, then 22
+abbrev pub text-reasons : List ℕ → Bounds → List Reason
+text-reasons s b = (1 when not (is-own s b)) ∷ []

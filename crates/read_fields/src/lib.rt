@@ -1,0 +1,21 @@
+// Reads columns 1 to 8 of a record: names decoded, positions, score, strand and phase.
+// In the Rust: `Record` in `record.rs`, `record/fields.rs`.
+//
+// Every reader takes a line and any bounds, and refuses 1 where they are not the line's own.
+//
+// Proved: each answer is the definition of specs/, in document 01's order of refusals. Assumes nothing.
+mod phase;
+mod position;
+mod score;
+mod strand;
+mod texts;
+
+pub use phase::phase_at;
+pub use position::end_at;
+pub use position::start_at;
+pub use score::ScoreRead;
+pub use score::score_at;
+pub use strand::strand_at;
+pub use texts::reference_sequence_name;
+pub use texts::source;
+pub use texts::ty;

@@ -1,0 +1,170 @@
+-- What surveying answers, field by field, and what its answer says. Assumes nothing.
+use Prim.Native.Nat.{ℕ, _+_, _*_, _≤_}
+use native.Mathlib.Omega.{arith}
+use borrow.Author.Needs.{needs}
+use mathlib.Core.Path.{_≡_, refl, sym, _∙_}
+use mathlib.Core.Logic.{_≢_}
+use mathlib.Core.Bool.{Bool, true, false, cond}
+use mathlib.Core.List.{List, [], flatMap}
+use mathlib.Core.Option.{Option, none, some}
+use lib.ListN.{length}
+use Rattle.base_words.specs.Same.{is-dot}
+use Rattle.base_buffer.specs.Answer.{refusal-of, unless}
+use Rattle.base_buffer.proofs.AnswerLaws.{Numbered, none-of, unless-append, unless-map, unless-is, unless-not}
+use Rattle.read_columns.specs.declared.bounds.Bounds.{Bounds}
+use Rattle.read_columns.specs.declared.bounds.Indexed.the-variants as indexing
+use Rattle.read_columns.specs.declared.column.Column.{Column}
+use Rattle.read_columns.specs.declared.column.Column.the-variants as column
+use Rattle.read_columns.specs.Columns.{ends, has-columns, indexed, column-place, column-text}
+use Rattle.read_columns.proofs.ColumnsLaws.{text-short}
+use Rattle.percent_coding.proofs.PercentLaws.{length-decoded}
+use Rattle.read_attributes.specs.Attributes.{Attribute, attributes, walk}
+use Rattle.sheet_form.specs.Sheet.{attribute-of, sheet-of}
+use Rattle.sheet_form.proofs.LengthLaws.{length-sheet}
+use Rattle.read_judge.specs.declared.judging.Numbers.{Numbers}
+use Rattle.read_judge.specs.declared.judging.MiddleRead.{MiddleRead}
+use Rattle.read_judge.specs.declared.judging.MiddleRead.the-variants as middle-read
+use Rattle.read_judge.specs.declared.judging.Surveyed.{Surveyed}
+use Rattle.read_judge.specs.declared.judging.Surveyed.the-variants.{Is, Refused}
+use Rattle.read_judge.specs.declared.judging.Size.the-variants as size
+use Rattle.read_judge.specs.Judge.{score-of-token, got, unfolded, numbers-of, stuck, middle-reasons, attributes-reasons}
+use Rattle.read_judge.specs.Judge.{unfold-reasons}
+use Rattle.read_judge.specs.Survey.{survey-of, surveyed}
+use Rattle.read_judge.specs.Inner.Fields.{middle-of, survey-fields}
+use Rattle.read_judge.specs.Inner.Size.{texts-length, sized}
+use Rattle.read_judge.proofs.AttributesLaws.{attributes-few}
+
+-- ── the fields: columns 4 to 8, and then column 9 ─────────────────────────────────────────────
+
+pub middle-numbered : (s : List ℕ) → Numbered (middle-reasons s)
+middle-numbered s = search needs
+
+pub unfold-numbered : (s : List ℕ) → Numbered (unfold-reasons s)
+unfold-numbered s = search needs
+
+-- what a size says of the attributes
+sized-is : (o : Option (List Attribute)) {k n : ℕ} → sized o ≡ size.Is k n
+    → (stuck o ≡ false) × (k ≡ length (got o)) × (n ≡ length (flatMap attribute-of (got o)))
+sized-is none e = absurd (let z : _≡_ {A = ℕ} 0 1 = cc in omega arith)
+sized-is (some l) e = (refl, cc, cc)
+
+sized-refused : (o : Option (List Attribute)) → sized o ≡ size.Refused → stuck o ≡ true
+sized-refused none e = refl
+sized-refused (some l) e = absurd (let z : _≡_ {A = ℕ} 0 1 = cc in omega arith)
+
+module _ (s : List ℕ) where
+  -- what is answered of them by columns 4 to 8
+  abbrev behind : MiddleRead → Surveyed
+  behind (middle-read.Is numbers) =
+      unless Refused (refusal-of (attributes-reasons s))
+      (Is numbers (ends s) (length (unfolded s .attributes)) (length (sheet-of (unfolded s))))
+  behind (middle-read.Refused n) = Refused n
+
+  pub fields-by : {m : MiddleRead} → middle-of s ≡ m → behind m ≡ survey-fields s
+  fields-by e =
+      rw (← e)
+      (unless-map middle-read.Refused behind (refusal-of (middle-reasons s)) (middle-read.Is (numbers-of s))
+      ∙ sym (unless-append Refused (middle-reasons s) (attributes-reasons s) (survey-of s) (middle-numbered s)))
+
+  module _ {numbers : Numbers} (e : middle-of s ≡ middle-read.Is numbers) where
+    pub attributes-refused : sized (attributes (walk (column-text column.Attributes s))) ≡ size.Refused → Refused 5 ≡ survey-fields s
+    unfolding unless
+    attributes-refused h = rw (← fields-by e, sized-refused (attributes (walk (column-text column.Attributes s))) h)
+
+    -- no reason holds
+    pub fields-are : {b : Bounds} {k n t : ℕ} → b ≡ ends s → sized (attributes (walk (column-text column.Attributes s))) ≡ size.Is k n
+        → t ≡ texts-length (unfolded s)
+        → Is numbers b k (t + 4 + n) ≡ survey-fields s
+    unfolding unless unfolded
+    fields-are {b} {k} {n} {t} own h texts =
+        let z = sized-is (attributes (walk (column-text column.Attributes s))) h in
+        let l : t + 4 + n ≡ length (sheet-of (unfolded s)) = omega (arith, length-sheet (unfolded s)) in
+        rw (← fields-by e, z .0, own, z .1, l)
+
+-- ── how long a sheet is at most ───────────────────────────────────────────────────────────────
+
+module _ (s : List ℕ) where
+  column-short : (c : Column) → length (column-text c s) ≤ length s
+  column-short c = text-short (column-place c s) s
+
+  -- the attributes, where no text is left without `=`
+  pub size-few : {k n : ℕ} → sized (attributes (walk (column-text column.Attributes s))) ≡ size.Is k n → n ≤ 6 + 6 * length s
+  size-few e =
+      let col = column-text column.Attributes s in
+      omega (arith, sized-is (attributes (walk col)) e .2, attributes-few col, column-short column.Attributes)
+
+  score-short : (token : List ℕ) → length (score-of-token token) ≤ length token
+  unfolding score-of-token
+  score-short token = go (is-dot token)
+    where
+      go : (t : Bool) → length (cond t [] token) ≤ length token
+      go true = omega arith
+      go false = omega arith
+
+  -- ten bytes of the sheet for each byte of the line, and the counts that every sheet has
+  pub sheet-few : length (sheet-of (unfolded s)) ≤ 26 + 10 * length s
+  unfolding unfolded
+  sheet-few =
+      let name = column-text column.ReferenceSequenceName s in
+      let source = column-text column.Source s in
+      let type = column-text column.Ty s in
+      let score = column-text column.Score s in
+      let col = column-text column.Attributes s in
+      omega (
+        arith,
+        length-sheet (unfolded s),
+        length-decoded name,
+        length-decoded source,
+        length-decoded type,
+        score-short score,
+        attributes-few col,
+        column-short column.ReferenceSequenceName,
+        column-short column.Source,
+        column-short column.Ty,
+        column-short column.Score,
+        column-short column.Attributes,
+      )
+
+-- ── the line's bounds ─────────────────────────────────────────────────────────────────────────
+
+pub indexed-at : (s : List ℕ) {b : Bounds} → indexed s ≡ indexing.At b → (has-columns s ≡ true) × (b ≡ ends s)
+unfolding indexed
+indexed-at s {b} e = go (has-columns s) e
+  where
+    go : (t : Bool) → cond t (indexing.At (ends s)) indexing.Refused ≡ indexing.At b → (t ≡ true) × (b ≡ ends s)
+    go true e = (refl, cc)
+    go false e = absurd (let z : _≡_ {A = ℕ} 0 1 = cc in omega arith)
+
+pub indexed-refused : (s : List ℕ) → indexed s ≡ indexing.Refused → has-columns s ≡ false
+unfolding indexed
+indexed-refused s e = go (has-columns s) e
+  where
+    go : (t : Bool) → cond t (indexing.At (ends s)) indexing.Refused ≡ indexing.Refused → t ≡ false
+    go true e = absurd (let z : _≡_ {A = ℕ} 0 1 = cc in omega arith)
+    go false e = refl
+
+-- ── what an answer says ───────────────────────────────────────────────────────────────────────
+
+pub record Told (s : List ℕ) (numbers : Numbers) (b : Bounds) (k l : ℕ) : Type 0 where
+  pub no-reason : refusal-of (unfold-reasons s) ≡ 0
+  pub numbers-are : numbers ≡ numbers-of s
+  pub bounds-are : b ≡ ends s
+  pub count-is : k ≡ length (unfolded s .attributes)
+  pub length-is : l ≡ length (sheet-of (unfolded s))
+
+pub told : (s : List ℕ) {numbers : Numbers} {b : Bounds} {k l : ℕ} → surveyed s ≡ Is numbers b k l → Told s numbers b k l
+told s e =
+    let t = unless-is Refused (refusal-of (unfold-reasons s)) e (λ k x. let y : _≡_ {A = ℕ} 0 1 = cc in omega arith) in
+    let h = t .1 in
+    record { no-reason = t .0; numbers-are = cc; bounds-are = cc; count-is = cc; length-is = cc }
+
+pub told-refused : (s : List ℕ) {k : ℕ} → surveyed s ≡ Refused k → (k ≡ refusal-of (unfold-reasons s)) × (k ≢ 0)
+told-refused s {k} e =
+    let t = unless-not Refused (refusal-of (unfold-reasons s)) e (λ x. let y : _≡_ {A = ℕ} 0 1 = cc in omega arith) in
+    let h = t .1 in
+    let same : k ≡ refusal-of (unfold-reasons s) = cc in
+    (same, λ x. t .0 (sym same ∙ x))
+
+-- the walk is not refused where no reason holds
+pub unstuck : (s : List ℕ) → refusal-of (unfold-reasons s) ≡ 0 → stuck (attributes (walk (column-text column.Attributes s))) ≡ false
+unstuck s e = none-of (unfold-reasons s) (unfold-numbered s) e .1 .1 .1 .1 .1 .1 .1 .0

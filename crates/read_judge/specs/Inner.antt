@@ -1,0 +1,3 @@
+-- What the promises of private functions cite, and no public promise does.
+pub mod Fields
+pub mod Size

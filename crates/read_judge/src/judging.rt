@@ -1,0 +1,199 @@
+// A line judged: what refuses it, or its numbers and how long its sheet is.
+use read_attributes::Step;
+use read_columns::Bounds;
+use read_columns::Column;
+use read_columns::Indexed;
+use read_tokens::Phase;
+use read_tokens::PhaseRead;
+use read_tokens::PositionRead;
+use read_tokens::Strand;
+use read_tokens::StrandRead;
+use read_values::NextValue;
+use read_values::ValueCursor;
+ghost use mathlib.Core.Path.{_≡_};
+ghost use Prim.Native.Nat.{_+_, _*_, _≤_};
+ghost use lib.ListN.{length};
+ghost use Rattle.base_lists.specs.Limits.{most-line};
+ghost use Rattle.read_columns.specs.Columns.{ends};
+ghost use Rattle.read_attributes.specs.Attributes.{values, attribute, attributes, walk};
+ghost use Rattle.sheet_form.specs.Sheet.{section-of, counted-of, attribute-of};
+ghost use Rattle.read_judge.specs.Judge.{unfolded, judged};
+ghost use Rattle.read_judge.specs.Survey.{surveyed};
+ghost use Rattle.read_judge.specs.Inner.Fields.{middle-of, survey-fields};
+ghost use Rattle.read_judge.specs.Inner.Size.{texts-length, sized};
+
+// What goes beside the sheet.
+pub struct Numbers {
+    pub start: u64,
+    pub end: u64,
+    pub strand: Strand,
+    pub phase: Phase,
+}
+
+pub enum Judged {
+    // The numbers, and the length of the sheet.
+    Is(Numbers, usize),
+    // 24, 1, 2, 17, 3, 4 or 5.
+    Refused(u32),
+}
+
+// What laying the sheet takes besides.
+pub enum Surveyed {
+    // The numbers, the line's bounds, how many attributes there are, and the length of the sheet.
+    Is(Numbers, Bounds, usize, usize),
+    // As `Judged`.
+    Refused(u32),
+}
+
+// Columns 4 to 8.
+enum MiddleRead {
+    Is(Numbers),
+    // 2, 17, 3 or 4.
+    Refused(u32),
+}
+
+// How many attributes there are, and how many bytes of the sheet they take.
+enum Size {
+    Is(usize, usize),
+    // Refusal 5.
+    Refused,
+}
+
+// How long the values of an attribute are on the sheet, with their count.
+fn values_len(value: &[u8]) -> usize
+    requires { ⌜ length (now value) ≤ most-line ⌝ }
+    ensures { λ r. ⌜ (r ≡ length (counted-of section-of (values (now (value .entry))))) × (r ≤ 8 + 4 * length (now (value .entry))) ⌝ }
+{
+    let mut n: usize = 4;
+    let mut cursor = ValueCursor::new();
+    loop {
+        match read_values::next_value(value, cursor) {
+            NextValue::Is(place, next) => {
+                n += 4 + percent_decode::decoded_len(base_scan::text(value, place));
+                cursor = next;
+            }
+            NextValue::Done => return n,
+        }
+    }
+}
+
+// How long an attribute is on the sheet.
+fn attribute_len(tag: &[u8], value: &[u8]) -> usize
+    requires { ⌜ (length (now tag) ≤ most-line) × (length (now value) ≤ most-line) ⌝ }
+    ensures { λ r. ⌜ (r ≡ length (attribute-of (attribute (now (tag .entry)) (now (value .entry)))))
+        × (r ≤ 12 + length (now (tag .entry)) + 4 * length (now (value .entry))) ⌝ }
+{
+    4 + percent_decode::decoded_len(tag) + values_len(value)
+}
+
+// The size of the attributes of column 9; refused where text is left without `=`.
+fn attributes_size(column: &[u8]) -> Size
+    requires { ⌜ length (now column) ≤ most-line ⌝ }
+    ensures { λ r. ⌜ r ≡ sized (attributes (walk (now (column .entry)))) ⌝ }
+{
+    let mut count: usize = 0;
+    let mut n: usize = 0;
+    let mut at = 0;
+    loop {
+        match read_attributes::next_field(column, at) {
+            Step::Is(field) => {
+                let tag = field.tag;
+                let value = field.value;
+                n += attribute_len(base_scan::text(column, tag), base_scan::text(column, value));
+                count += 1;
+                at = field.next;
+            }
+            Step::Done => return Size::Is(count, n),
+            Step::Refused => return Size::Refused,
+        }
+    }
+}
+
+// How long the first four sections are on the sheet.
+fn texts_len(line: &[u8], bounds: Bounds) -> usize
+    requires { ⌜ (bounds ≡ ends (now line)) × (length (now line) ≤ most-line) ⌝ }
+    ensures { λ r. ⌜ (r ≡ texts-length (unfolded (now (line .entry)))) × (r ≤ 16 + 4 * length (now (line .entry))) ⌝ }
+{
+    let name_text = read_columns::text_in(line, bounds, Column::ReferenceSequenceName);
+    let name = percent_decode::decoded_len(name_text);
+    let source_text = read_columns::text_in(line, bounds, Column::Source);
+    let source = percent_decode::decoded_len(source_text);
+    let ty_text = read_columns::text_in(line, bounds, Column::Ty);
+    let ty = percent_decode::decoded_len(ty_text);
+    let score = super::texts::score(read_columns::text_in(line, bounds, Column::Score));
+    16 + name + source + ty + score.len()
+}
+
+// Columns 4 to 8 of a record whose bounds these are. Refusals, in order: 2 (start, then end), 17, 3, 4.
+fn middle_of(line: &[u8], bounds: Bounds) -> MiddleRead
+    requires { ⌜ bounds ≡ ends (now line) ⌝ }
+    ensures { λ r. ⌜ r ≡ middle-of (now (line .entry)) ⌝ }
+{
+    let start_text = read_columns::text_in(line, bounds, Column::Start);
+    let PositionRead::Is(start) = read_tokens::position_of(start_text) else {
+        return MiddleRead::Refused(2);
+    };
+    let end_text = read_columns::text_in(line, bounds, Column::End);
+    let PositionRead::Is(end) = read_tokens::position_of(end_text) else {
+        return MiddleRead::Refused(2);
+    };
+    let token = read_columns::text_in(line, bounds, Column::Score);
+    if !(base_words::is_dot(token) | read_score::is_score(token)) {
+        return MiddleRead::Refused(17);
+    }
+    let strand_text = read_columns::text_in(line, bounds, Column::Strand);
+    let StrandRead::Is(strand) = read_tokens::strand_of(strand_text) else {
+        return MiddleRead::Refused(3);
+    };
+    let phase_text = read_columns::text_in(line, bounds, Column::Phase);
+    let PhaseRead::Is(phase) = read_tokens::phase_of(phase_text) else {
+        return MiddleRead::Refused(4);
+    };
+    MiddleRead::Is(Numbers {
+        start,
+        end,
+        strand,
+        phase,
+    })
+}
+
+// The fields of a record whose bounds these are. Refusals, in order: 2 (start, then end), 17, 3, 4, 5.
+fn survey_fields(line: &[u8], bounds: Bounds) -> Surveyed
+    requires { ⌜ (bounds ≡ ends (now line)) × (length (now line) ≤ most-line) ⌝ }
+    ensures { λ r. ⌜ r ≡ survey-fields (now (line .entry)) ⌝ }
+{
+    match middle_of(line, bounds) {
+        MiddleRead::Is(numbers) => {
+            let rest = read_columns::text_in(line, bounds, Column::Attributes);
+            let Size::Is(count, length) = attributes_size(rest) else {
+                return Surveyed::Refused(5);
+            };
+            Surveyed::Is(numbers, bounds, count, texts_len(line, bounds) + 4 + length)
+        }
+        MiddleRead::Refused(n) => Surveyed::Refused(n),
+    }
+}
+
+// The line indexed, once, and its fields surveyed. Refusals as those of `judge`.
+pub fn survey(line: &[u8]) -> Surveyed
+    ensures { λ r. ⌜ r ≡ surveyed (now (line .entry)) ⌝ }
+{
+    if base_buffer::MOST_LINE < line.len() {
+        return Surveyed::Refused(24);
+    }
+    match read_columns::index(line) {
+        Indexed::At(bounds) => survey_fields(line, bounds),
+        Indexed::Refused => Surveyed::Refused(1),
+    }
+}
+
+// The numbers of a line and the length of its sheet, without a buffer. Refusals, in order: 24, over 4,194,304 bytes; 1; 2 (start, then
+// end); 17; 3; 4; 5.
+pub fn judge(line: &[u8]) -> Judged
+    ensures { λ r. ⌜ r ≡ judged (now (line .entry)) ⌝ }
+{
+    match survey(line) {
+        Surveyed::Is(numbers, _, _, length) => Judged::Is(numbers, length),
+        Surveyed::Refused(n) => Judged::Refused(n),
+    }
+}

@@ -1,0 +1,16 @@
+// Judges a line as unfolding it would, without a buffer: its refusal, or its numbers and its sheet's length.
+//
+// The line is taken as a record without looking at its kind. Every refusal of unfolding is answered but 22, and else start, end, strand and
+// phase, and the length of the sheet. `survey` answers besides what laying the sheet takes.
+//
+// Proved: the answers are those of specs/, refusals in document 01's order. The line is indexed once, and no attribute or value is read
+// more than a fixed number of times. Assumes nothing.
+mod judging;
+mod texts;
+
+pub use judging::Judged;
+pub use judging::Numbers;
+pub use judging::Surveyed;
+pub use judging::judge;
+pub use judging::survey;
+pub use texts::score;

@@ -1,0 +1,16 @@
+-- `next_value` answers `next-value`. Assumes nothing.
+use borrow.Author.Needs.{needs}
+use Rattle.read_values.specs.Step.{next-value}
+use Rattle.read_values.proofs.next_value.Statement.{statement}
+use Rattle.read_values.proofs.next_value.Tie as tie
+
+returns : tie.Need-returns
+unfolding next-value
+returns c = rw (c .if1 .taken)
+
+returns-2 : tie.Need-returns-2
+unfolding next-value
+returns-2 c = rw (c .before .before .if1 .left, ← c .before .least .ensures, ← c .find .ensures .0)
+
+pub next-value-spec : {M : Type 1} → statement M
+next-value-spec = tie.close (tie.spec returns (λ c κs. tt) (λ c κs. tt) (λ c. search needs) returns-2)

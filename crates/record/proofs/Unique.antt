@@ -1,9 +1,0 @@
--- The public function's promise allows one result and one content of the lent buffer. Assumes nothing.
-use denote.Ref.{now}
-use Rattle.lists.proofs.One.{One}
-use Rattle.buffer.proofs.AnswerLaws.{wrote-one}
-use Rattle.record.proofs.write.write_record.Kinds as write-record-kinds
-use Rattle.record.proofs.write.write_record.Reads as write-record
-
-write-record-one : One 2 write-record-kinds.ps write-record-kinds.r write-record.Post (λ κs x. x) (λ κs s. now (s .1 .1 .1 .1 .1 .0))
-write-record-one κs a x y s t p q = wrote-one p q

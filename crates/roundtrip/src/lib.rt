@@ -1,5 +1,0 @@
-// There and back: what a record that was written reads back as. There is no function here, only laws that tie the promise of writing to
-// that of unfolding.
-//
-// Proved: a record that the writer accepts is one line, of the kind record, short enough to unfold, and unfolding it gives the same sheet
-// and numbers; the same holds of one that was unfolded and is written again. Assumes nothing.

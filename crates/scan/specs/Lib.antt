@@ -1,3 +1,0 @@
-pub mod Find
-pub mod Mask
-pub mod Part

@@ -1,3 +1,0 @@
-mod Samples
-pub mod SetLaws
-mod Unique

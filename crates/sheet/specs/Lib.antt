@@ -1,4 +1,0 @@
-pub mod Cursor
-pub mod Past
-pub mod Reader
-pub mod Sheet

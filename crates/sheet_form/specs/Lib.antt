@@ -1,0 +1,4 @@
+pub mod Cursor
+pub mod Inner
+pub mod Reader
+pub mod Sheet

@@ -1,2 +1,0 @@
-pub mod UnfoldLaws
-mod Unique

@@ -1,9 +1,0 @@
--- Each public function's promise allows one result and one content of a lent buffer. Assumes nothing.
-use denote.Ref.{now}
-use Rattle.lists.proofs.One.{One}
-use Rattle.unfold.proofs.UnfoldLaws.{unfolds-one}
-use Rattle.unfold.proofs.lay.unfold.Kinds as unfold-kinds
-use Rattle.unfold.proofs.lay.unfold.Reads as laying
-
-unfold-one : One 2 unfold-kinds.ps unfold-kinds.r laying.Post (λ κs x. x) (λ κs s. now (s .1 .0))
-unfold-one κs a x y s t p q = unfolds-one p q

@@ -1,8 +1,0 @@
--- `is_dot` answers `isDot`. Assumes nothing.
-use borrow.Author.Needs.{needs}
-use Rattle.words.proofs.SameLaws.{dot-one, dot-other}
-use Rattle.words.proofs.same.is_dot.Statement.{statement}
-use Rattle.words.proofs.same.is_dot.Tie as tie
-
-pub is-dot-spec : {M : Type 1} → statement M
-is-dot-spec = tie.close (tie.spec (λ c. search needs) (λ c. dot-one _ (c .before .if1 .taken)) (λ c. dot-other _ (c .if1 .left)))

@@ -1,0 +1,6 @@
+pub mod MeasuredLaws
+pub mod LedLaws
+mod LineLaws
+mod LoopLaws
+pub mod PassLaws
+mod Unique

@@ -1,0 +1,9 @@
+-- `first_fault` answers the first reason: each stands before those that were asked before it. Assumes nothing.
+use Rattle.write_measure.proofs.reasons.first_fault.Statement.{statement}
+use Rattle.write_measure.proofs.reasons.first_fault.Tie as tie
+
+returns : tie.Need-returns
+returns c = cc
+
+pub first-fault-spec : {M : Type 1} → statement M
+first-fault-spec = tie.close (tie.spec (λ c κs. tt) (λ c κs. tt) (λ c κs. tt) (λ c κs. tt) (λ c κs. tt) returns)

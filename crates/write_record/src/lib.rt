@@ -1,0 +1,12 @@
+// Writes a record as a line into a lent buffer, from its field sheet and the numbers beside it.
+// In the Rust: `io/writer/line/record.rs` and below.
+//
+// The caller adds the line feed.
+//
+// Proved: the answer and the whole buffer are those that the definitions of `write_measure` give, refusals in document 01's order; a
+// refused record changes no byte. The record is judged and measured before its first byte is laid; each byte of the sheet is read a fixed
+// number of times. Assumes nothing.
+mod lay;
+mod write;
+
+pub use write::write_record;
