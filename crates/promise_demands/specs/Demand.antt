@@ -10,7 +10,7 @@ use mathlib.Core.List.{List, [], _∷_, _++_}
 use mathlib.Core.Option.{Option, none, some}
 use lib.Dec.{ltb}
 use lib.ListN.{length, drop, getD}
-use Rattle.base_lists.specs.Bytes.{Every, Bytes, Lacks, comma, tab}
+use Rattle.base_lists.specs.Bytes.{Every, Lacks, comma, tab}
 use Rattle.base_buffer.specs.declared.Written.the-variants.{Done}
 use Rattle.base_buffer.specs.Answer.{Reason, _when_, refusal-of, number, Wrote}
 use Rattle.write_decimals.specs.Decimal.{decimal}

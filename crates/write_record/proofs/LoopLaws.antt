@@ -1,9 +1,9 @@
 -- Many things of the sheet, each behind a byte: laid one after another. Assumes nothing.
-use Prim.Native.Nat.{ℕ, _+_, _*_, _≤_, min}
+use Prim.Native.Nat.{ℕ, _+_, _≤_, min}
 use native.Mathlib.Omega.{arith}
 use mathlib.Core.Path.{_≡_, refl}
-use mathlib.Core.List.{List, [], _∷_, _++_, map}
-use lib.ListN.{length, drop, length-append}
+use mathlib.Core.List.{List, [], _∷_, map}
+use lib.ListN.{length, drop}
 use Rattle.base_buffer.specs.Laid.{laid, Lays}
 use Rattle.base_buffer.proofs.LaidLaws.{lays-then, lays-none}
 use Rattle.sheet_form.specs.Reader.{Reader, times}
