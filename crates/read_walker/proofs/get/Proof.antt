@@ -5,7 +5,7 @@
 -- exit, and of the other what column and the tag own goes to the callee, beside the lifetimes' tokens, which come back (`apart`).
 -- The steps, in the code's order: room for four locals; the walker into _1 and the tag into _2; _3 = _1.column; _0 = find_tag(_3, _2);
 -- return; the room is given back (`walk`).
--- What closes it: `read_lookup::find_tag` meets its contract, which is all that is known of it, so its answer is `lookup` of the column and
+-- What closes it: `read_lookup::find_tag` meets its contract, which is all that is known of it, so its answer is `find-tag` of the column and
 -- the tag, and that is what `get` promises of its own (`said`, `exits`). Assumes nothing.
 use mathlib.Core.Path.{_≡_, refl}
 use Prim.Native.Nat.{ℕ}

@@ -1,4 +1,4 @@
--- `values` is safe and ends: a text of 512 bytes has at most 513 values. Assumes nothing.
+-- `values_of` is safe and ends: a text of 512 bytes has at most 513 values. Assumes nothing.
 use borrow.Author.Needs.{needs}
 use Rattle.program_replay.proofs.columns_cases.values_of.Statement.{statement}
 use Rattle.program_replay.proofs.columns_cases.values_of.Tie as tie

@@ -4,4 +4,4 @@ use Rattle.read_numbers.proofs.read.region_position.Statement.{statemen
 use Rattle.read_numbers.proofs.read.region_position.Tie as tie
 
 pub region-position-spec : {M : Type 1} → statement M
-region-position-spec = tie.close (tie.spec (λ c κs. tt) (λ c κs. search needs) (λ c. cc))
+region-position-spec = tie.close (tie.spec (λ c κs. tt) (λ c κs. search needs) (λ c. rw (c .before .past-plus .ensures) at (c .digits .ensures)))
