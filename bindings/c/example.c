@@ -3,7 +3,6 @@
 
 #include <inttypes.h>
 #include <stdio.h>
-#include <string.h>
 
 static const char annotation[] =
     "##gff-version 3\n"
@@ -15,23 +14,39 @@ static const char annotation[] =
     "chr%201\tlab\texon\t1\t2\t.\t+\t.\tID\n"
     "chr%201\tlab\n";
 
-/* One record, or the number of the first refusal. */
+/* A decoded text may hold any byte, NUL too, so it goes with its length. */
+typedef struct {
+    uint8_t bytes[64];
+    size_t length;
+} decoded;
+
+/* The ID of a record, empty where it has none; answers the number of the first refusal, or 0. */
+static uint64_t read_id(const uint8_t *line, size_t len, gff3_bounds bounds, decoded *id)
+{
+    static const uint8_t tag[] = {'I', 'D'};
+
+    const gff3_place column = gff3_column(line, len, bounds, GFF3_COLUMN_ATTRIBUTES);
+    const uint8_t *attributes = line + column.start;
+    const gff3_found found = gff3_find_tag(attributes, column.end - column.start, tag, sizeof tag);
+    if (found.refused != 0) {
+        return found.refused;
+    }
+    const gff3_written written = gff3_decode(attributes + found.start, found.end - found.start, id->bytes, sizeof id->bytes);
+    id->length = written.length;
+    return written.refused;
+}
+
+/* Prints a record, or answers the number of the first refusal. */
 static uint64_t print_record(const uint8_t *line, size_t len)
 {
-    static const uint8_t id_tag[] = {'I', 'D'};
-    uint8_t name[64];
-    uint8_t id[64];
+    decoded name;
+    decoded id;
 
     const gff3_indexed indexed = gff3_index(line, len);
     if (indexed.refused != 0) {
         return indexed.refused;
     }
     const gff3_bounds bounds = indexed.bounds;
-
-    const gff3_written name_len = gff3_text(line, len, bounds, 1, name, sizeof name);
-    if (name_len.refused != 0) {
-        return name_len.refused;
-    }
     const gff3_number start = gff3_start(line, len, bounds);
     if (start.refused != 0) {
         return start.refused;
@@ -40,22 +55,19 @@ static uint64_t print_record(const uint8_t *line, size_t len)
     if (end.refused != 0) {
         return end.refused;
     }
-
-    const gff3_place column = gff3_column(line, len, bounds, 9);
-    const uint8_t *attributes = line + column.start;
-    const gff3_found found = gff3_find_tag(attributes, column.end - column.start, id_tag, sizeof id_tag);
-    if (found.refused != 0) {
-        return found.refused;
+    const gff3_written written =
+        gff3_text(line, len, bounds, GFF3_COLUMN_REFERENCE_SEQUENCE_NAME, name.bytes, sizeof name.bytes);
+    if (written.refused != 0) {
+        return written.refused;
     }
-    const gff3_written id_len = gff3_decode(attributes + found.start, found.end - found.start, id, sizeof id);
-    if (id_len.refused != 0) {
-        return id_len.refused;
+    const uint64_t refused = read_id(line, len, bounds, &id);
+    if (refused != 0) {
+        return refused;
     }
 
-    printf("%.*s: %" PRIu64 " to %" PRIu64, (int)name_len.length, (const char *)name, start.value, end.value);
-    if (found.found) {
-        printf(", %.*s", (int)id_len.length, (const char *)id);
-    }
+    fwrite(name.bytes, 1, written.length, stdout);
+    printf(": %" PRIu64 " to %" PRIu64 "%s", start.value, end.value, id.length == 0 ? "" : ", ");
+    fwrite(id.bytes, 1, id.length, stdout);
     putchar('\n');
     return 0;
 }
@@ -63,7 +75,7 @@ static uint64_t print_record(const uint8_t *line, size_t len)
 int main(void)
 {
     const uint8_t *text = (const uint8_t *)annotation;
-    const size_t len = strlen(annotation);
+    const size_t len = sizeof annotation - 1;
     unsigned number = 0;
 
     for (gff3_line line = gff3_next_line(text, len, 0); !line.done; line = gff3_next_line(text, len, line.next)) {
@@ -71,10 +83,10 @@ int main(void)
         const size_t count = line.end - line.start;
 
         number++;
-        if (gff3_kind(bytes, count) == GFF3_RECORD) {
+        if (gff3_kind(bytes, count) == GFF3_KIND_RECORD) {
             const uint64_t refused = print_record(bytes, count);
             if (refused != 0) {
-                printf("line %u is refused, by number %" PRIu64 "\n", number, refused);
+                printf("line %u: %s\n", number, gff3_reason(refused));
             }
         }
     }

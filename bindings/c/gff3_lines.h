@@ -1,37 +1,19 @@
-/* GFF3 lines, read and written with proof: the crates c_lines to c_write state what each call answers.
+/* GFF3 lines, read and written with proof. docs/RULES.md of the project has the rules (RULES 16: the calls in C), and the crates c_lines
+ * to c_write state what each call answers.
  *
  * Every function takes any bytes and numbers, ends, and keeps nothing: there is no state, and any number of threads may call. A pointer
  * may be null where its length is 0. An output buffer may not overlap a text of the same call.
  *
- * Places are offsets into the text that was handed in: from `start`, before `end`; a text is never copied. A cursor beyond its text
- * counts as at its end. Where `done` or `missing` is 1, or `is`, `has_value` or `found` is 0, every field behind it is 0.
+ * Places are offsets into the text that was handed in: from `start`, before `end`; a text is never copied. Where `done` or `missing` is 1,
+ * or `is`, `has_value` or `found` is 0, every field behind it is 0, but for a cursor.
  *
- * `refused` is 0, or the number of the refusal, and then every other field is 0, but for `length` with 22:
+ * A walk over lines, attributes or values goes by a cursor: begin with 0, and hand `next` of each answer to the next call. A cursor
+ * beyond its text counts as at its end. `next` is never beyond the text, so `text + next` is a legal pointer. Where a walk is done or
+ * refused, `next` is the cursor handed in, or the text's length where that was beyond it, and another call with it answers the same.
  *
- *    1            the line has fewer than eight tabs, or the bounds are not the line's own
- *    2            not a position; in a write, a position of zero
- *    3            not a strand; in a write, above 3
- *    4            not a phase; in a write, above 3
- *    5            attribute text is left without `=`
- *    6            the text of a version, a region or a build is empty
- *    7, 8, 9      version: major, minor, patch not valid; in a write, 9 is a patch without a minor
- *    10           region: name missing
- *    11, 12       region: start missing, not valid
- *    13, 14       region: end missing, not valid
- *    15, 16       build: source, name missing
- *    17           not a score
- *    18           the type is `CDS`, and there is no phase
- *    19           the key of a directive holds ASCII white space
- *    20           a comment holds CR or LF or begins with `#`; the text of a directive holds CR or LF; a region's name, or a build's
- *                 source or name, is empty or holds ASCII white space
- *    21           a version, region or build under another key than `gff-version`, `sequence-region`, `genome-build`
- *    22           the output is longer than the buffer; `length` is the length needed
- *    23           not a sheet
- *    24           the line to unfold has over 4,194,304 bytes; the text to encode, the sheet, or a text of a comment or a directive
- *                 has over 1,048,576
- *
- * Of several, the one that a function's comment names first is given. A refused call changes no byte of its output buffer, and a call
- * that is not refused changes none past the length that it reports.
+ * `refused` is 0, or the number of a refusal, and then every other field is 0, but for `next`, and for `length` with GFF3_REFUSED_ROOM,
+ * which is the length needed. Of several refusals, the one that a function's comment names first is given. A refused call changes no
+ * byte of its output buffer, and a call that is not refused changes none past the length that it reports.
  */
 #ifndef GFF3_LINES_H
 #define GFF3_LINES_H
@@ -39,14 +21,55 @@
 #include <stddef.h>
 #include <stdint.h>
 
+#define GFF3_LINES_VERSION "0.2.0"
+
 #ifdef __cplusplus
 extern "C" {
 #endif
 
+/* ---- refusals and limits ---- */
+
+enum {
+    GFF3_REFUSED_COLUMNS = 1,               /* the line has fewer than eight tabs, the bounds are not its own, or there is no such column */
+    GFF3_REFUSED_POSITION = 2,              /* not a position, or a position of zero */
+    GFF3_REFUSED_STRAND = 3,                /* not a strand */
+    GFF3_REFUSED_PHASE = 4,                 /* not a phase */
+    GFF3_REFUSED_ATTRIBUTE = 5,             /* text is left in column 9 without an equals sign */
+    GFF3_REFUSED_EMPTY = 6,                 /* the text of a version, a region or a build is empty */
+    GFF3_REFUSED_MAJOR = 7,                 /* the version's major part is not a number */
+    GFF3_REFUSED_MINOR = 8,                 /* the version's minor part is not a number */
+    GFF3_REFUSED_PATCH = 9,                 /* the version's patch part is not a number, or stands without a minor part */
+    GFF3_REFUSED_REGION_NAME_MISSING = 10,  /* the region has no name */
+    GFF3_REFUSED_REGION_START_MISSING = 11, /* the region has no start */
+    GFF3_REFUSED_REGION_START = 12,         /* the region's start is not a position */
+    GFF3_REFUSED_REGION_END_MISSING = 13,   /* the region has no end */
+    GFF3_REFUSED_REGION_END = 14,           /* the region's end is not a position */
+    GFF3_REFUSED_BUILD_SOURCE_MISSING = 15, /* the build has no source */
+    GFF3_REFUSED_BUILD_NAME_MISSING = 16,   /* the build has no name */
+    GFF3_REFUSED_SCORE = 17,                /* not a score */
+    GFF3_REFUSED_PHASE_MISSING = 18,        /* a CDS has no phase */
+    GFF3_REFUSED_KEY = 19,                  /* the directive's key has white space in it */
+    GFF3_REFUSED_TEXT = 20,                 /* a text that would not read back: a line end in it, a comment that begins with #, or a
+                                               region's or build's name that is empty or has white space in it */
+    GFF3_REFUSED_VALUE_KEY = 21,            /* a version, a region or a build under another directive's key */
+    GFF3_REFUSED_ROOM = 22,                 /* the buffer is too short */
+    GFF3_REFUSED_SHEET = 23,                /* not a field sheet */
+    GFF3_REFUSED_TOO_LONG = 24              /* the line or the text is too long */
+};
+
+/* The most bytes of a line to unfold; and of a text to encode, a sheet to write, or a text of a comment or a directive to write. More are
+ * refused by GFF3_REFUSED_TOO_LONG. */
+enum { GFF3_MOST_LINE = 4194304, GFF3_MOST_TEXT = 1048576 };
+
+/* ---- in C alone ---- */
+
+/* What a refusal says, in words: the text beside its number above; "not refused" for 0, and "unknown refusal" for a number that is none. */
+const char *gff3_reason(uint64_t refused);
+
 /* ---- lines ---- */
 
 /* The next line from `at` on, without its line feed and one carriage return just before it, and the cursor behind it. `done` is 1 where
- * none is left. Begin with 0. */
+ * none is left; `next` is then `text_len`. */
 typedef struct {
     uint64_t done;
     size_t start;
@@ -57,7 +80,7 @@ typedef struct {
 gff3_line gff3_next_line(const uint8_t *text, size_t text_len, size_t at);
 
 /* What a line is: `##` begins a directive, else `#` a comment; every other line, the empty one included, is a record. */
-enum { GFF3_DIRECTIVE = 0, GFF3_COMMENT = 1, GFF3_RECORD = 2 };
+enum { GFF3_KIND_DIRECTIVE = 0, GFF3_KIND_COMMENT = 1, GFF3_KIND_RECORD = 2 };
 
 uint32_t gff3_kind(const uint8_t *line, size_t line_len);
 
@@ -106,7 +129,20 @@ gff3_indexed gff3_index(const uint8_t *line, size_t line_len);
 
 /* The readers below take a line and its bounds, and refuse 1 where they are not the line's own. */
 
-/* A raw column, 1 to 9, as a place; another number counts as 9. Refusal 1. */
+/* The columns by their numbers. */
+enum {
+    GFF3_COLUMN_REFERENCE_SEQUENCE_NAME = 1,
+    GFF3_COLUMN_SOURCE = 2,
+    GFF3_COLUMN_TYPE = 3,
+    GFF3_COLUMN_START = 4,
+    GFF3_COLUMN_END = 5,
+    GFF3_COLUMN_SCORE = 6,
+    GFF3_COLUMN_STRAND = 7,
+    GFF3_COLUMN_PHASE = 8,
+    GFF3_COLUMN_ATTRIBUTES = 9
+};
+
+/* A raw column, as a place. Refusal 1, also where `column` is not 1 to 9. */
 typedef struct {
     uint64_t refused;
     size_t start;
@@ -115,7 +151,13 @@ typedef struct {
 
 gff3_place gff3_column(const uint8_t *line, size_t line_len, gff3_bounds bounds, uint32_t column);
 
-/* A number. Start and end: refusals 1, 2. Strand: 0 to 3 for . + - ?, refusals 1, 3. Phase: 0 to 2, and 3 for none, refusals 1, 4. */
+/* The strands: . + - ? */
+enum { GFF3_STRAND_NONE = 0, GFF3_STRAND_FORWARD = 1, GFF3_STRAND_REVERSE = 2, GFF3_STRAND_UNKNOWN = 3 };
+
+/* A phase is 0, 1 or 2, or none. */
+enum { GFF3_PHASE_NONE = 3 };
+
+/* A number. Start and end: refusals 1, 2. Strand: refusals 1, 3. Phase: refusals 1, 4. */
 typedef struct {
     uint64_t refused;
     uint64_t value;
@@ -142,13 +184,12 @@ typedef struct {
     size_t length;
 } gff3_written;
 
-/* Columns 1 to 3, percent-decoded; another number counts as 3. Refusals 1, 22. */
+/* One of columns 1 to 3, percent-decoded. Refusals 1, also where `column` is not 1 to 3, and 22. */
 gff3_written gff3_text(const uint8_t *line, size_t line_len, gff3_bounds bounds, uint32_t column, uint8_t *out, size_t out_len);
 
 /* ---- column 9 ---- */
 
-/* The attribute at a cursor, as it stands, and the cursor behind it. `done` is 1 where none is left. Refusal 5; the cursor stays, and
- * the next call answers the same. Begin with 0. */
+/* The attribute at a cursor, as it stands, and the cursor behind it. `done` is 1 where none is left. Refusal 5. */
 typedef struct {
     uint64_t refused;
     uint64_t done;
@@ -161,8 +202,9 @@ typedef struct {
 
 gff3_field gff3_next_field(const uint8_t *column, size_t column_len, size_t at);
 
-/* The next of the values of an attribute, as it stands, and the cursor behind it: `next`, and `out`, whether that was the last. `done`
- * is 1 where none is left. Begin with 0 and 0. */
+/* The next of the values of an attribute, as it stands, and the cursor behind it, which has two parts: `next`, and `out`, which is 1 where
+ * the last value is out. Begin with 0 and 0; any `out` but 0 says that the last value is out. `done` is 1 where none is left; `out` is 1
+ * then. */
 typedef struct {
     uint64_t done;
     size_t start;
@@ -227,10 +269,10 @@ gff3_build_value gff3_build(const uint8_t *text, size_t text_len);
 /* A text, percent-decoded. Refusal 22. */
 gff3_written gff3_decode(const uint8_t *text, size_t text_len, uint8_t *out, size_t out_len);
 
-/* The set of bytes that are escaped; another number counts as GFF3_ATTRIBUTE. */
-enum { GFF3_NAME = 1, GFF3_COLUMN = 2, GFF3_ATTRIBUTE = 3 };
+/* The set of bytes that are escaped: of column 1, of columns 2 and 3, of tags and values in column 9. */
+enum { GFF3_SET_NAME = 1, GFF3_SET_COLUMN = 2, GFF3_SET_ATTRIBUTE = 3 };
 
-/* A text, percent-encoded. Refusals 24, 22. */
+/* A text, percent-encoded. A set that does not exist counts as GFF3_SET_NAME, which escapes all that the other two do. Refusals 24, 22. */
 gff3_written gff3_encode(uint32_t set, const uint8_t *text, size_t text_len, uint8_t *out, size_t out_len);
 
 /* A position, as columns 4 and 5 have it: 1 to 18446744073709551615. Refusal 2. */
@@ -240,8 +282,7 @@ gff3_number gff3_position(const uint8_t *text, size_t text_len);
 
 /* A sheet holds the texts of a record, each after its count of bytes, and a count is four bytes, low byte first: column 1, source, type,
  * score (a count of 0: missing), and the count of attributes; then of each attribute its tag, the count of its values, which is not 0,
- * and its values. Nothing follows. All but the score is percent-decoded. Start, end, strand and phase stand beside it as numbers: strand
- * 0 to 3 for . + - ?, phase 0 to 2, and 3 for none.
+ * and its values. Nothing follows. All but the score is percent-decoded. Start, end, strand and phase stand beside it as numbers.
  *
  * A line is taken as a record without a look at its kind. `length` is that of the sheet. */
 typedef struct {
@@ -261,14 +302,15 @@ gff3_unfolded gff3_unfold(const uint8_t *line, size_t line_len, uint8_t *sheet, 
 
 /* ---- lines written, without a line feed ---- */
 
-/* The line of a sheet and its numbers; no attributes are written as a dot. Refusals 24, 23, 2, 17, 3, 4, 18, 22. */
+/* The line of a sheet and its numbers; no attributes are written as a dot. Refusals 24, 23, 2, 17, 3, 4, 18, 22; 2 for a start or an end of
+ * zero, 3 and 4 for a strand or a phase above 3. */
 gff3_written gff3_write_record(const uint8_t *sheet, size_t sheet_len, uint64_t start, uint64_t end, uint32_t strand, uint32_t phase,
                                uint8_t *out, size_t out_len);
 
 /* The value of a directive. A text, a region's name and a build's source go into the call as `first`, and a build's name as `second`;
  * `start` and `end` are a region's. The minor and the patch of a version are there where `has_minor`, `has_patch` is not 0. What the kind
- * does not name is not looked at. Another kind counts as GFF3_NO_VALUE. */
-enum { GFF3_NO_VALUE = 0, GFF3_TEXT = 1, GFF3_VERSION = 2, GFF3_REGION = 3, GFF3_BUILD = 4 };
+ * does not name is not looked at. Another kind counts as GFF3_VALUE_NONE. */
+enum { GFF3_VALUE_NONE = 0, GFF3_VALUE_TEXT = 1, GFF3_VALUE_VERSION = 2, GFF3_VALUE_REGION = 3, GFF3_VALUE_BUILD = 4 };
 
 typedef struct {
     uint32_t kind;
@@ -281,8 +323,9 @@ typedef struct {
     uint64_t end;
 } gff3_directive_value;
 
-/* `##`, the key, and a space and the value where there is one. A version, region or build is written under its own key alone, a text
- * under any. Refusals 24, 21, 19, 20, 9, 2, 22. */
+/* `##`, the key, and a space and the value where there is one. A version, region or build is written under its own key alone
+ * (`gff-version`, `sequence-region`, `genome-build`), a text under any. Refusals 24, 21, 19, 20, 9, 2, 22; 9 for a patch without a minor,
+ * 2 for a region's start or end of zero. */
 gff3_written gff3_write_directive(const uint8_t *key, size_t key_len, gff3_directive_value value, const uint8_t *first, size_t first_len,
                                   const uint8_t *second, size_t second_len, uint8_t *out, size_t out_len);
 

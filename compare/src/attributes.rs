@@ -6,7 +6,7 @@ use oracle::io::api::{
 };
 
 use crate::{
-    case::{Case, Difference, Verdict, same, same_text},
+    case::{By, Case, Compared, Difference, Verdict, same, same_text},
     desk::Desk,
     ours::{self, Field, Found, Value},
     report::{Call, Report},
@@ -157,17 +157,20 @@ fn lookup(report: &mut Report, column: &[u8], tag: &[u8]) {
 }
 
 fn no_attributes(desk: &mut Desk, case: Case<'_>) -> Verdict {
-    same(
-        ours::no_attributes(desk.text(case.text)),
-        u32::from(rust::is_empty(case.text)),
-    )
+    let answer = ours::no_attributes(desk.text(case.text));
+    By::Rust.says(same(answer, u32::from(rust::is_empty(case.text))))
 }
 
-/// From a cursor, as the Rust steps over what is left from there. A column `.` is none at all, which its own step is not
-/// told.
+/// From a cursor, as the Rust steps over what is left from there. That a cursor beyond the column counts as at its end is
+/// RULES 5.3.
 fn next_field(desk: &mut Desk, case: Case<'_>) -> Verdict {
-    let len = case.text.len();
-    let at = case.number.min(len);
+    By::rust_if(case.number <= case.text.len()).says(field_from(desk, case))
+}
+
+/// A column `.` is none at all, which the Rust's own step is not told.
+fn field_from(desk: &mut Desk, case: Case<'_>) -> Compared {
+    let end = case.text.len();
+    let at = case.number.min(end);
     let step = if case.text == b"." {
         Step::Done
     } else {
@@ -177,20 +180,8 @@ fn next_field(desk: &mut Desk, case: Case<'_>) -> Verdict {
     let answer = ours::next_field(lent, case.number);
 
     match step {
-        Step::Done => same(
-            answer,
-            Field {
-                done: 1,
-                ..Field::default()
-            },
-        ),
-        Step::Refused(_) => same(
-            answer,
-            Field {
-                refused: 5,
-                ..Field::default()
-            },
-        ),
+        Step::Done => same(answer, no_field(0, at)),
+        Step::Refused(_) => same(answer, no_field(5, at)),
         Step::Field(tag, value, left) => {
             let value_start = at + tag.len() + 1;
             let expected = Field {
@@ -200,18 +191,31 @@ fn next_field(desk: &mut Desk, case: Case<'_>) -> Verdict {
                 tag_end: at + tag.len(),
                 value_start,
                 value_end: value_start + value.len(),
-                next: value_start + value.len() + 1,
+                next: end - left,
             };
             same(answer, expected)?;
-            same(answer.next.min(len), len - left)?;
             same_text(lent, answer.tag_start, answer.tag_end, tag)?;
             same_text(lent, answer.value_start, answer.value_end, value)
         }
     }
 }
 
-/// From the start, by the library's own cursors, and after a refusal once more.
+/// Where there is no field: refused by 5, or done, and the cursor where it was (RULES 16.2).
+fn no_field(refused: u64, next: usize) -> Field {
+    Field {
+        refused,
+        done: u64::from(refused == 0),
+        next,
+        ..Field::default()
+    }
+}
+
+/// From the start, by the library's own cursors, and at the end or after a refusal once more.
 fn walk(desk: &mut Desk, case: Case<'_>) -> Verdict {
+    By::Rust.says(walk_by_cursor(desk, case))
+}
+
+fn walk_by_cursor(desk: &mut Desk, case: Case<'_>) -> Compared {
     let (fields, refused) = rust::walk(case.text);
     let lent = desk.text(case.text);
     let mut at = 0;
@@ -224,56 +228,59 @@ fn walk(desk: &mut Desk, case: Case<'_>) -> Verdict {
         at = answer.next;
     }
 
-    let expected = match refused {
-        Some(_) => Field {
-            refused: 5,
-            ..Field::default()
-        },
-        None => Field {
-            done: 1,
-            ..Field::default()
-        },
-    };
-
     if let Some(place) = refused {
         same(("refused at", at), ("refused at", place))?;
     }
 
-    same(ours::next_field(lent, at), expected)?;
-    same(ours::next_field(lent, at), expected)
+    let last = ours::next_field(lent, at);
+    same(last, no_field(if refused.is_some() { 5 } else { 0 }, at))?;
+    same(ours::next_field(lent, last.next), last)
 }
 
-/// From a cursor. The Rust splits a whole text and decodes it at once, so the values from the cursor on are those of the text
-/// that is left.
+/// From a cursor. That the last value may be out, and what a cursor beyond the text counts as, is RULES 5.3.
 fn next_value(desk: &mut Desk, case: Case<'_>) -> Verdict {
+    By::rust_if(case.out == 0 && case.number <= case.text.len()).says(value_from(desk, case))
+}
+
+/// The Rust splits a whole text and decodes it at once, so the values from the cursor on are those of the text that is left.
+fn value_from(desk: &mut Desk, case: Case<'_>) -> Compared {
+    let end = case.text.len();
+    let at = case.number.min(end);
     let answer = ours::next_value(desk.text(case.text), case.number, case.out);
 
     if case.out != 0 {
-        return same(
-            answer,
-            Value {
-                done: 1,
-                ..Value::default()
-            },
-        );
+        return same(answer, no_value(at));
     }
 
-    let at = case.number.min(case.text.len());
     let values = values(rust::parse_value(&case.text[at..]));
     let raw = case.text[at..].split(|&b| b == b',').next().unwrap_or_default();
     let expected = Value {
         done: 0,
         start: at,
         end: at + raw.len(),
-        next: at + raw.len() + 1,
+        next: end.min(at + raw.len() + 1),
         out: (values.len() == 1).into(),
     };
     same(answer, expected)?;
     same(Some(percent_decode(raw)), values.into_iter().next())
 }
 
-/// From the start, by the library's own cursors.
+/// Where there is no value: the last one stays out, and the cursor where it was (RULES 16.2).
+fn no_value(next: usize) -> Value {
+    Value {
+        done: 1,
+        next,
+        out: 1,
+        ..Value::default()
+    }
+}
+
+/// From the start, by the library's own cursors, and at the end once more.
 fn all_values(desk: &mut Desk, case: Case<'_>) -> Verdict {
+    By::Rust.says(values_by_cursor(desk, case))
+}
+
+fn values_by_cursor(desk: &mut Desk, case: Case<'_>) -> Compared {
     let lent = desk.text(case.text);
     let mut cursor = (0, 0);
 
@@ -284,13 +291,9 @@ fn all_values(desk: &mut Desk, case: Case<'_>) -> Verdict {
         cursor = (answer.next, answer.out);
     }
 
-    same(
-        ours::next_value(lent, cursor.0, cursor.1),
-        Value {
-            done: 1,
-            ..Value::default()
-        },
-    )
+    let last = ours::next_value(lent, cursor.0, cursor.1);
+    same(last, no_value(case.text.len()))?;
+    same(ours::next_value(lent, last.next, last.out), last)
 }
 
 fn values(value: Values) -> Vec<Vec<u8>> {
@@ -300,8 +303,12 @@ fn values(value: Values) -> Vec<Vec<u8>> {
     }
 }
 
-/// The place is that of the first field whose tag the Rust decodes to this one; the Rust's own lookup tells the value there.
 fn find_tag(desk: &mut Desk, case: Case<'_>) -> Verdict {
+    By::Rust.says(tag_found(desk, case))
+}
+
+/// The place is that of the first field whose tag the Rust decodes to this one.
+fn tag_found(desk: &mut Desk, case: Case<'_>) -> Compared {
     let (fields, refused) = rust::walk(case.text);
     let met = fields.iter().find(|(tag, _)| rust::parse_tag(tag) == case.tag);
     let (lent, tag) = desk.text_and_tag(case);
@@ -324,7 +331,11 @@ fn find_tag(desk: &mut Desk, case: Case<'_>) -> Verdict {
         (None, None) => Found::default(),
     };
     same(answer, expected)?;
+    value_found(case, lent, answer)
+}
 
+/// The value there is the one that the Rust's own lookup tells.
+fn value_found(case: Case<'_>, lent: &[u8], answer: Found) -> Compared {
     match (rust::get(case.text, case.tag), answer) {
         (
             None,

@@ -136,10 +136,42 @@ pub struct Difference {
     pub expected: String,
 }
 
-pub type Verdict = Result<(), Difference>;
+pub type Compared = Result<(), Difference>;
+
+/// Who says what an answer has to be.
+#[derive(Clone, Copy, Debug, Eq, PartialEq)]
+pub enum By {
+    /// The Rust: every text, number and refusal of the answer is its own. How C has them, by places and with 0 in the fields that
+    /// say nothing, and the counts of a sheet, are not.
+    Rust,
+    /// A checker of this comparison, written from docs/RULES.md: the Rust has no such case, or does otherwise.
+    Checker,
+}
+
+impl By {
+    /// The Rust where this holds, else the checker.
+    pub fn rust_if(holds: bool) -> Self {
+        if holds { Self::Rust } else { Self::Checker }
+    }
+
+    /// The Rust where both are.
+    pub fn and(self, other: Self) -> Self {
+        Self::rust_if(self == Self::Rust && other == Self::Rust)
+    }
+
+    pub fn says(self, compared: Compared) -> Verdict {
+        Verdict { by: self, compared }
+    }
+}
+
+/// What a comparison found, and who decided it.
+pub struct Verdict {
+    pub by: By,
+    pub compared: Compared,
+}
 
 /// Compares an answer of the library with the one expected.
-pub fn same<T: Debug + PartialEq>(ours: T, expected: T) -> Verdict {
+pub fn same<T: Debug + PartialEq>(ours: T, expected: T) -> Compared {
     if ours == expected {
         return Ok(());
     }
@@ -151,7 +183,7 @@ pub fn same<T: Debug + PartialEq>(ours: T, expected: T) -> Verdict {
 }
 
 /// Compares the text at a place of the library with the one expected.
-pub fn same_text(text: &[u8], start: usize, end: usize, expected: &[u8]) -> Verdict {
+pub fn same_text(text: &[u8], start: usize, end: usize, expected: &[u8]) -> Compared {
     let found = text.get(start..end);
 
     if found == Some(expected) {

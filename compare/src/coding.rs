@@ -3,7 +3,7 @@
 use oracle::io::api::{coding as rust, record};
 
 use crate::{
-    case::{Case, Slack, Verdict, same},
+    case::{By, Case, Slack, Verdict, same},
     desk::{Desk, rooms},
     numbers, ours,
     report::{Call, Report},
@@ -13,7 +13,7 @@ use crate::{
 /// The longest text that is encoded; the Rust knows no such limit.
 const LONGEST: usize = 1_048_576;
 
-/// The three sets, and numbers that count as the third.
+/// The three sets, and numbers that count as the first (RULES 16.3).
 const SETS: [usize; 6] = [1, 2, 3, 0, 4, u32::MAX as usize];
 
 const MARKS: &[u8] = b"%%%%0123456789abcdefABCDEFgG+;=&, \x7f\x80\xff";
@@ -141,40 +141,41 @@ fn encoded(report: &mut Report, text: &[u8]) {
 
 fn decode(desk: &mut Desk, case: Case<'_>) -> Verdict {
     let expected = rust::percent_decode(case.text);
-    desk.writes(case, Ok(&expected), ours::decode)
+    desk.writes(case, By::Rust, Ok(&expected), ours::decode)
 }
 
 type Writer = fn(&[u8]) -> Vec<u8>;
 
 /// Two of the Rust's writers share a set each: columns 2 and 3, tags and values.
 fn encode(desk: &mut Desk, case: Case<'_>) -> Verdict {
-    let encode = |set: u32| move |text: &[u8], out: &mut [u8]| ours::encode(set, text, out);
+    let set = case.number as u32;
+    let encode = |text: &[u8], out: &mut [u8]| ours::encode(set, text, out);
 
     if case.text.len() > LONGEST {
-        return desk.writes(case, Err(24), encode(case.number as u32));
+        return desk.writes(case, By::Checker, Err(24), encode);
     }
 
     let writers: &[Writer] = match case.number {
-        1 => &[rust::encode_reference_sequence_name],
         2 => &[rust::encode_source, rust::encode_type],
-        _ => &[rust::encode_tag, rust::encode_value],
+        3 => &[rust::encode_tag, rust::encode_value],
+        _ => &[rust::encode_reference_sequence_name],
     };
-
     let expected = writers[0](case.text);
-    desk.writes(case, Ok(&expected), encode(case.number as u32))?;
-    writers[1..]
-        .iter()
-        .try_for_each(|write| same(&expected, &write(case.text)))
+    let by = By::rust_if((1..=3).contains(&case.number));
+    let verdict = desk.writes(case, by, Ok(&expected), encode);
+    let mut others = writers[1..].iter();
+    let alike = others.try_for_each(|write| same(&expected, &write(case.text)));
+    verdict.by.says(verdict.compared.and(alike))
 }
 
 /// The Rust reads positions in columns alone, so a token with a tab never reaches its reader: it is no position.
 fn position(desk: &mut Desk, case: Case<'_>) -> Verdict {
-    let expected = if case.text.contains(&b'\t') {
-        Err(2)
+    let (by, expected) = if case.text.contains(&b'\t') {
+        (By::Checker, Err(2))
     } else {
         let line = [b"\t\t\t", case.text, b"\t\t\t\t\t"].concat();
         numbers::position(case.text, || record::start(&line))
     };
 
-    same(ours::position(desk.text(case.text)), numbers::answer(expected))
+    by.says(same(ours::position(desk.text(case.text)), numbers::answer(expected)))
 }

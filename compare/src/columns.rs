@@ -3,7 +3,7 @@
 use oracle::io::api::record as rust;
 
 use crate::{
-    case::{Case, Given, Verdict, same, same_text},
+    case::{By, Case, Compared, Given, Verdict, same, same_text},
     desk::{Desk, rooms},
     numbers,
     ours::{self, Bounds, Indexed, Number, Place, ScoreText},
@@ -209,15 +209,17 @@ fn with(column: usize, text: &[u8]) -> Vec<u8> {
     columns.join(&b'\t')
 }
 
-/// The bounds that go into the call, and whether they are the line's own.
-fn bounds(case: Case<'_>) -> (Bounds, bool) {
+/// The bounds that go into a call, whether they are the line's own, and who decides: the Rust, but where a line that has bounds
+/// is given others, which it cannot be.
+fn bounds(case: Case<'_>) -> (Bounds, bool, By) {
     let own = rust::bounds(case.text);
     let ends = match case.bounds {
         Given::Own => own.unwrap_or_default(),
         Given::These(ends) => ends,
     };
+    let is_own = own == Some(ends);
 
-    (Bounds { ends }, own == Some(ends))
+    (Bounds { ends }, is_own, By::rust_if(is_own || own.is_none()))
 }
 
 fn index(desk: &mut Desk, case: Case<'_>) -> Verdict {
@@ -232,30 +234,32 @@ fn index(desk: &mut Desk, case: Case<'_>) -> Verdict {
         },
     };
 
-    same(ours::index(desk.text(case.text)), expected)
+    By::Rust.says(same(ours::index(desk.text(case.text)), expected))
 }
 
+/// A number that is no column's is refused by 1 (RULES 16.3).
 fn column(desk: &mut Desk, case: Case<'_>) -> Verdict {
-    let (bounds, own) = bounds(case);
+    let (bounds, own, by) = bounds(case);
+    let is_column = (1..=9).contains(&case.number);
     let lent = desk.text(case.text);
     let answer = ours::column(lent, bounds, case.number as u32);
-    let columns = rust::columns(case.text).filter(|_| own);
+    let columns = rust::columns(case.text).filter(|_| own && is_column);
 
-    let Some(columns) = columns else {
-        return same(
+    let compared = match columns {
+        None => same(
             answer,
             Place {
                 refused: 1,
                 ..Place::default()
             },
-        );
+        ),
+        Some(columns) => at_column(case, lent, answer, columns[case.number - 1]),
     };
 
-    let expected = columns[if (1..=9).contains(&case.number) {
-        case.number - 1
-    } else {
-        8
-    }];
+    by.and(By::rust_if(is_column)).says(compared)
+}
+
+fn at_column(case: Case<'_>, lent: &[u8], answer: Place, expected: &[u8]) -> Compared {
     let start = expected.as_ptr() as usize - case.text.as_ptr() as usize;
     let end = start + expected.len();
     same(answer, Place { refused: 0, start, end })?;
@@ -277,31 +281,37 @@ fn position(
     read: fn(&[u8], Bounds) -> Number,
     rust: fn(&[u8]) -> Result<u64, u8>,
 ) -> Verdict {
-    let (bounds, own) = bounds(case);
+    let (bounds, own, by) = bounds(case);
 
-    let expected = match rust::columns(case.text).filter(|_| own) {
-        None => Err(1),
+    let (by, expected) = match rust::columns(case.text).filter(|_| own) {
+        None => (by, Err(1)),
         Some(columns) => numbers::position(columns[column], || rust(case.text)),
     };
 
-    same(read(desk.text(case.text), bounds), numbers::answer(expected))
+    by.says(same(read(desk.text(case.text), bounds), numbers::answer(expected)))
 }
 
 fn strand(desk: &mut Desk, case: Case<'_>) -> Verdict {
-    let (bounds, own) = bounds(case);
+    let (bounds, own, by) = bounds(case);
     let expected = if own { rust::strand(case.text) } else { Err(1) };
-    same(ours::strand(desk.text(case.text), bounds), numbers::answer(expected))
+    by.says(same(
+        ours::strand(desk.text(case.text), bounds),
+        numbers::answer(expected),
+    ))
 }
 
 fn phase(desk: &mut Desk, case: Case<'_>) -> Verdict {
-    let (bounds, own) = bounds(case);
+    let (bounds, own, by) = bounds(case);
     let expected = if own { rust::phase(case.text) } else { Err(1) };
-    same(ours::phase(desk.text(case.text), bounds), numbers::answer(expected))
+    by.says(same(
+        ours::phase(desk.text(case.text), bounds),
+        numbers::answer(expected),
+    ))
 }
 
-/// The grammar is document 01's; of the Rust's, which is wider, what is missing is compared, and that it holds ours.
+/// The grammar is that of RULES 4.2; of the Rust's, which is wider, what is missing is compared, and that it holds ours.
 fn read_score(desk: &mut Desk, case: Case<'_>) -> Verdict {
-    let (bounds, own) = bounds(case);
+    let (bounds, own, by) = bounds(case);
     let answer = ours::score(desk.text(case.text), bounds);
     let refused = |refused| ScoreText {
         refused,
@@ -309,44 +319,47 @@ fn read_score(desk: &mut Desk, case: Case<'_>) -> Verdict {
     };
 
     let Some(columns) = rust::columns(case.text).filter(|_| own) else {
-        return same(answer, refused(1));
+        return by.says(same(answer, refused(1)));
     };
 
     let token = columns[5];
     let start = token.as_ptr() as usize - case.text.as_ptr() as usize;
     let read = rust::score(case.text);
+    let accepted = ("accepted by the Rust", answer.refused != 0 || read.is_ok());
 
-    let expected = if read == Ok(None) {
-        ScoreText {
+    let (by, expected) = if read == Ok(None) {
+        let missing = ScoreText {
             missing: 1,
             ..ScoreText::default()
-        }
+        };
+        (By::Rust, missing)
     } else if score::is_token(token) {
-        ScoreText {
+        let token = ScoreText {
             start,
             end: start + token.len(),
             ..ScoreText::default()
-        }
+        };
+        (By::Checker, token)
     } else {
-        refused(17)
+        (By::Checker, refused(17))
     };
-    same(answer, expected)?;
-    same(
-        ("accepted by the Rust", answer.refused != 0 || read.is_ok()),
-        ("accepted by the Rust", true),
-    )
+
+    by.says(same(answer, expected).and_then(|()| same(accepted, ("accepted by the Rust", true))))
 }
 
+/// A number that is none of the three columns' is refused by 1 (RULES 16.3).
 fn text(desk: &mut Desk, case: Case<'_>) -> Verdict {
-    let (bounds, own) = bounds(case);
+    let (bounds, own, by) = bounds(case);
     let read = match case.number {
-        1 => rust::reference_sequence_name,
-        2 => rust::source,
-        _ => rust::ty,
+        1 => Some(rust::reference_sequence_name as fn(&[u8]) -> Result<Vec<u8>, u8>),
+        2 => Some(rust::source as _),
+        3 => Some(rust::ty as _),
+        _ => None,
     };
-    let expected = if own { read(case.text) } else { Err(1) };
+    let by = by.and(By::rust_if(read.is_some()));
+    let expected = read.filter(|_| own).map_or(Err(1), |read| read(case.text));
 
-    desk.writes(case, expected.as_deref().map_err(|&n| u64::from(n)), |line, out| {
+    desk.writes(case, by, expected.as_deref().map_err(|&n| u64::from(n)), |line, out| {
         ours::text(line, bounds, case.number as u32, out)
     })
 }

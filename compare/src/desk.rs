@@ -3,7 +3,7 @@
 use std::fmt::Debug;
 
 use crate::{
-    case::{Case, Difference, Slack, Verdict, same},
+    case::{By, Case, Compared, Difference, Slack, Verdict, same},
     fence::{Room, Side, Texts},
     ours::{self, Written},
 };
@@ -79,14 +79,21 @@ impl Desk {
     }
 
     /// Compares a writer's answer, and what it left in and beside its buffer, with the text expected or a refusal that comes
-    /// before it.
+    /// before it, and says who decided: `by`, or the checker where the room is too short, which the Rust does not know.
     pub fn writes(
         &mut self,
         case: Case<'_>,
+        by: By,
         expected: Result<&[u8], u64>,
         write: impl Fn(&[u8], &mut [u8]) -> Written,
     ) -> Verdict {
-        self.lays(case, expected, |[text, ..], out| write(text, out), |written| written)
+        self.lays(
+            case,
+            by,
+            expected,
+            |[text, ..], out| write(text, out),
+            |written| written,
+        )
     }
 
     /// The same of a call that is given three texts, or answers more than a length: `answer` is what it has to answer where a
@@ -94,6 +101,7 @@ impl Desk {
     pub fn lays<A: Debug + PartialEq>(
         &mut self,
         case: Case<'_>,
+        by: By,
         expected: Result<&[u8], u64>,
         write: impl Fn([&[u8]; 3], &mut [u8]) -> A,
         answer: impl Fn(Written) -> A,
@@ -117,7 +125,20 @@ impl Desk {
         } else {
             b""
         };
+        let by = by.and(By::rust_if(written.refused != 22));
+        by.says(self.compares(case, room, laid, write, answer(written)))
+    }
 
+    /// Makes the call, and compares what it answers and what it leaves in its room and beside it.
+    fn compares<A: Debug + PartialEq>(
+        &mut self,
+        case: Case<'_>,
+        room: usize,
+        laid: &[u8],
+        write: impl Fn([&[u8]; 3], &mut [u8]) -> A,
+        answer: A,
+    ) -> Compared {
+        let texts = case.text.len() + case.tag.len() + case.second.len();
         let side = self.side();
         let given = [case.text, case.tag, case.second];
         let (lent, out) = if self.is_behind() && texts < BESIDE {
@@ -130,7 +151,7 @@ impl Desk {
             ];
             (lent, self.room.lend(room, side))
         };
-        same(write(lent, out), answer(written))?;
+        same(write(lent, out), answer)?;
 
         if self.room.has(laid) {
             return Ok(());

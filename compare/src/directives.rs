@@ -5,7 +5,7 @@ use std::borrow::Cow;
 use oracle::io::api::values as rust;
 
 use crate::{
-    case::{Case, Verdict, same, same_text},
+    case::{By, Case, Compared, Verdict, same, same_text},
     desk::Desk,
     ours::{self, BuildValue, RegionValue, VersionValue},
     report::{Call, Report},
@@ -113,21 +113,21 @@ fn whole(report: &mut Report, text: &[u8]) {
     report.check(Call::Build, Case::of(text), build);
 }
 
-/// The text as the Rust takes it. It reads UTF-8 alone; in any other text bytes from 0x80 are neither digit nor white space,
-/// which `x` is neither, so the answer on `x` in their place is expected.
-fn readable(text: &[u8]) -> Cow<'_, str> {
+/// The text as the Rust takes it, and who decides. It reads UTF-8 alone; in any other text bytes from 0x80 are neither digit nor
+/// white space, which `x` is neither, so the answer on `x` in their place is expected (RULES 7).
+fn readable(text: &[u8]) -> (By, Cow<'_, str>) {
     match str::from_utf8(text) {
-        Ok(text) => text.into(),
-        Err(_) => text
-            .iter()
-            .map(|&b| if b.is_ascii() { char::from(b) } else { 'x' })
-            .collect::<String>()
-            .into(),
+        Ok(text) => (By::Rust, text.into()),
+        Err(_) => {
+            let plain = text.iter().map(|&b| if b.is_ascii() { char::from(b) } else { 'x' });
+            (By::Checker, plain.collect::<String>().into())
+        }
     }
 }
 
 fn version(desk: &mut Desk, case: Case<'_>) -> Verdict {
-    let expected = match rust::parse_version(&readable(case.text)) {
+    let (by, text) = readable(case.text);
+    let expected = match rust::parse_version(&text) {
         Ok((major, minor, patch)) => VersionValue {
             refused: 0,
             parts: 1 + u64::from(minor.is_some()) + u64::from(patch.is_some()),
@@ -141,17 +141,18 @@ fn version(desk: &mut Desk, case: Case<'_>) -> Verdict {
         },
     };
 
-    same(ours::version(desk.text(case.text)), expected)
+    by.says(same(ours::version(desk.text(case.text)), expected))
 }
 
 fn region(desk: &mut Desk, case: Case<'_>) -> Verdict {
-    let text = readable(case.text);
-    let lent = desk.text(case.text);
-    let answer = ours::region(lent);
+    let (by, text) = readable(case.text);
+    by.says(region_of(ours::region(desk.text(case.text)), &text))
+}
 
-    match rust::parse_region(&text) {
+fn region_of(answer: RegionValue, text: &str) -> Compared {
+    match rust::parse_region(text) {
         Ok((name, start, end)) => {
-            let [(name_start, name_end), _] = words(&text);
+            let [(name_start, name_end), _] = words(text);
             let expected = RegionValue {
                 refused: 0,
                 name_start,
@@ -173,13 +174,14 @@ fn region(desk: &mut Desk, case: Case<'_>) -> Verdict {
 }
 
 fn build(desk: &mut Desk, case: Case<'_>) -> Verdict {
-    let text = readable(case.text);
-    let lent = desk.text(case.text);
-    let answer = ours::build(lent);
+    let (by, text) = readable(case.text);
+    by.says(build_of(ours::build(desk.text(case.text)), &text))
+}
 
-    match rust::parse_build(&text) {
+fn build_of(answer: BuildValue, text: &str) -> Compared {
+    match rust::parse_build(text) {
         Ok((source, name)) => {
-            let [(source_start, source_end), (name_start, name_end)] = words(&text);
+            let [(source_start, source_end), (name_start, name_end)] = words(text);
             let expected = BuildValue {
                 refused: 0,
                 source_start,

@@ -3,7 +3,7 @@
 use oracle::io::api::lines as rust;
 
 use crate::{
-    case::{Case, Verdict, same, same_text},
+    case::{By, Case, Compared, Verdict, same, same_text},
     desk::Desk,
     ours::{self, CommentText, DirectiveText, Line},
     report::{Call, Report},
@@ -104,22 +104,21 @@ fn one_line(report: &mut Report, line: &[u8]) {
     report.check(Call::Directive, Case::of(line), directive);
 }
 
-/// From a cursor, as the Rust reads what is left from there.
+/// From a cursor, as the Rust reads what is left from there. That a cursor beyond the text counts as at its end is RULES 1.5.
 fn next_line(desk: &mut Desk, case: Case<'_>) -> Verdict {
-    let at = case.number.min(case.text.len());
+    By::rust_if(case.number <= case.text.len()).says(line_from(desk, case))
+}
+
+fn line_from(desk: &mut Desk, case: Case<'_>) -> Compared {
+    let end = case.text.len();
+    let at = case.number.min(end);
     let mut line = Vec::new();
     let taken = rust::read_line(&mut &case.text[at..], &mut line);
     let lent = desk.text(case.text);
     let answer = ours::next_line(lent, case.number);
 
     if taken == 0 {
-        return same(
-            answer,
-            Line {
-                done: 1,
-                ..Line::default()
-            },
-        );
+        return same(answer, done(end));
     }
 
     let expected = Line {
@@ -132,8 +131,20 @@ fn next_line(desk: &mut Desk, case: Case<'_>) -> Verdict {
     same_text(lent, answer.start, answer.end, &line)
 }
 
-/// From the start, by the library's own cursors.
+fn done(next: usize) -> Line {
+    Line {
+        done: 1,
+        next,
+        ..Line::default()
+    }
+}
+
+/// From the start, by the library's own cursors, and at the end once more.
 fn all_lines(desk: &mut Desk, case: Case<'_>) -> Verdict {
+    By::Rust.says(lines_by_cursor(desk, case))
+}
+
+fn lines_by_cursor(desk: &mut Desk, case: Case<'_>) -> Compared {
     let lent = desk.text(case.text);
     let mut at = 0;
 
@@ -144,14 +155,21 @@ fn all_lines(desk: &mut Desk, case: Case<'_>) -> Verdict {
         at = answer.next;
     }
 
-    same(ours::next_line(lent, at).done, 1)
+    let last = ours::next_line(lent, at);
+    same(last, done(case.text.len()))?;
+    same(ours::next_line(lent, last.next), last)
 }
 
 fn kind(desk: &mut Desk, case: Case<'_>) -> Verdict {
-    same(ours::kind(desk.text(case.text)), u32::from(rust::kind(case.text)))
+    let kind = ours::kind(desk.text(case.text));
+    By::Rust.says(same(kind, u32::from(rust::kind(case.text))))
 }
 
 fn comment(desk: &mut Desk, case: Case<'_>) -> Verdict {
+    By::Rust.says(comment_text(desk, case))
+}
+
+fn comment_text(desk: &mut Desk, case: Case<'_>) -> Compared {
     let lent = desk.text(case.text);
     let answer = ours::comment(lent);
 
@@ -170,6 +188,10 @@ fn comment(desk: &mut Desk, case: Case<'_>) -> Verdict {
 }
 
 fn directive(desk: &mut Desk, case: Case<'_>) -> Verdict {
+    By::Rust.says(directive_text(desk, case))
+}
+
+fn directive_text(desk: &mut Desk, case: Case<'_>) -> Compared {
     let lent = desk.text(case.text);
     let answer = ours::directive(lent);
 

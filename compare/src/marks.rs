@@ -1,10 +1,10 @@
-//! Comments and directives written. The Rust writes the line; which are refused is document 01's, and that it refuses each that
-//! the Rust fails to write is checked.
+//! Comments and directives written. The Rust writes the line; which are refused is in RULES 11.4 and 11.5, and that each that the
+//! Rust fails to write is refused is checked.
 
 use oracle::io::api::writing::{self as rust, Typed};
 
 use crate::{
-    case::{Case, Difference, Slack, Verdict},
+    case::{By, Case, Difference, Slack, Verdict},
     desk::{Desk, rooms},
     ours::{self, DirectiveValue},
     report::{Call, Report},
@@ -78,8 +78,15 @@ pub fn every(report: &mut Report, len: usize) {
     }
 }
 
-/// Numbers of each count of digits in each place; and the longest texts, and those one longer.
 pub fn sweep(report: &mut Report) {
+    numbers(report);
+    lengths(report);
+    keys_put_wrong(report);
+    long(report);
+}
+
+/// Numbers of each count of digits in each place.
+fn numbers(report: &mut Report) {
     let mut numbers = vec![0, 1, u64::MAX];
 
     for power in 1..20 {
@@ -103,7 +110,10 @@ pub fn sweep(report: &mut Report) {
             }
         }
     }
+}
 
+/// Texts of each length.
+fn lengths(report: &mut Report) {
     for len in 0..=70 {
         let text = texts::turns(b"abcdefghijk", len);
         let other = texts::turns(b"lmnopqr", 70 - len);
@@ -114,8 +124,10 @@ pub fn sweep(report: &mut Report) {
         directive_of(report, directive_case(KEYS[2], BUILD, &text, &other));
         directive_of(report, directive_case(KEYS[2], BUILD, &text, b"b"));
     }
+}
 
-    // Each byte of the three keys put wrong, and each cut of them.
+/// Each byte of the three keys put wrong, and each cut of them.
+fn keys_put_wrong(report: &mut Report) {
     for key in &KEYS[..3] {
         for at in 0..key.len() {
             for number in [VERSION, REGION, BUILD] {
@@ -133,7 +145,10 @@ pub fn sweep(report: &mut Report) {
             }
         }
     }
+}
 
+/// The longest texts, those one shorter and those one longer.
+fn long(report: &mut Report) {
     for len in [LONGEST - 1, LONGEST, LONGEST + 1] {
         let text = vec![b'a'; len];
         let spaced = vec![b' '; len];
@@ -243,7 +258,7 @@ fn comment(desk: &mut Desk, case: Case<'_>) -> Verdict {
         (20, breaks(case.text) || case.text.starts_with(b"#")),
     ];
     let line = rust::write_comment(case.text);
-    written(desk, case, &reasons, line, |[text, ..], out| {
+    written(desk, case, By::Rust, &reasons, line, |[text, ..], out| {
         ours::write_comment(text, out)
     })
 }
@@ -296,7 +311,8 @@ fn directive(desk: &mut Desk, case: Case<'_>) -> Verdict {
     ];
     let line = rust::write_directive(case.text, typed);
 
-    written(desk, case, &reasons, line, |[key, first, second], out| {
+    let by = By::rust_if(case.number <= BUILD);
+    written(desk, case, by, &reasons, line, |[key, first, second], out| {
         ours::write_directive(key, ours, first, second, out)
     })
 }
@@ -305,24 +321,25 @@ fn directive(desk: &mut Desk, case: Case<'_>) -> Verdict {
 fn written(
     desk: &mut Desk,
     case: Case<'_>,
+    by: By,
     reasons: &[(u64, bool)],
     rust: std::io::Result<Vec<u8>>,
     write: impl Fn([&[u8]; 3], &mut [u8]) -> ours::Written,
 ) -> Verdict {
     let refused = reasons.iter().find(|(_, holds)| *holds).map(|(number, _)| *number);
 
-    let expected = match (refused, &rust) {
-        (Some(number), _) => Err(number),
-        (None, Ok(line)) => Ok(&line[..]),
+    let (by, expected) = match (refused, &rust) {
+        (Some(number), _) => (By::Checker, Err(number)),
+        (None, Ok(line)) => (by, Ok(&line[..])),
         (None, Err(error)) => {
-            return Err(Difference {
+            return By::Rust.says(Err(Difference {
                 ours: "not refused".to_owned(),
                 expected: format!("a refusal, since the Rust fails: {error}"),
-            });
+            }));
         }
     };
 
-    desk.lays(case, expected, write, |written| written)
+    desk.lays(case, by, expected, write, |written| written)
 }
 
 fn is_long(text: &[u8]) -> bool {

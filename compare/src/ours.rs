@@ -1,17 +1,16 @@
 //! The library's C functions, as bindings/c/gff3_lines.h declares them, behind functions on slices.
 //!
-//! Nothing checks these declarations against the header, so they stand in its order and with its names.
+//! They stand in its order and with its names; tools/declarations holds them to it, and to the crates that export them.
 
-use std::{
-    ptr,
-    sync::atomic::{AtomicBool, Ordering},
-};
+use std::{cell::Cell, ptr};
 
-/// Whether a slice without bytes goes over as a null pointer: the header allows both forms.
-static EMPTY_IS_NULL: AtomicBool = AtomicBool::new(false);
+thread_local! {
+    /// Whether a slice without bytes goes over as a null pointer: the header allows both forms.
+    static EMPTY_IS_NULL: Cell<bool> = const { Cell::new(false) };
+}
 
 pub fn set_empty_is_null(null: bool) {
-    EMPTY_IS_NULL.store(null, Ordering::Relaxed);
+    EMPTY_IS_NULL.set(null);
 }
 
 macro_rules! structs {
@@ -213,7 +212,7 @@ pub fn write_directive(key: &[u8], value: DirectiveValue, first: &[u8], second: 
 
 #[inline]
 fn pointer(text: &[u8]) -> *const u8 {
-    if text.is_empty() && EMPTY_IS_NULL.load(Ordering::Relaxed) {
+    if text.is_empty() && EMPTY_IS_NULL.get() {
         ptr::null()
     } else {
         text.as_ptr()
@@ -221,7 +220,7 @@ fn pointer(text: &[u8]) -> *const u8 {
 }
 
 fn pointer_mut(out: &mut [u8]) -> *mut u8 {
-    if out.is_empty() && EMPTY_IS_NULL.load(Ordering::Relaxed) {
+    if out.is_empty() && EMPTY_IS_NULL.get() {
         ptr::null_mut()
     } else {
         out.as_mut_ptr()

@@ -1,13 +1,13 @@
 //! Records written from their sheets. The Rust writes the line, but for the score, which it has as a number: there the token of
-//! the sheet is expected. Which are refused is document 01's; that they are those that the Rust fails to write, or cannot
-//! express, is checked.
+//! the sheet is expected. Which are refused is in RULES 11.3; that they are those that the Rust fails to write, or cannot express,
+//! is checked.
 
 use std::io;
 
 use oracle::io::api::writing::{self as rust, Fields};
 
 use crate::{
-    case::{Case, Difference, Slack, Verdict},
+    case::{By, Case, Difference, Slack, Verdict},
     desk::{Desk, rooms},
     ours,
     report::{Call, Report},
@@ -101,9 +101,16 @@ fn plain() -> Sheet {
     }
 }
 
-/// Each byte of a sheet put wrong, and each cut of it; numbers of each count of digits; every refusal before every other; texts of
-/// each length, many attributes and many values; and the longest sheet, and one longer.
 pub fn sweep(report: &mut Report) {
+    sheets_put_wrong(report);
+    numbers(report);
+    refusals(report);
+    lengths(report);
+    long(report);
+}
+
+/// Each byte of a sheet put wrong, each cut of it, and more behind it.
+fn sheets_put_wrong(report: &mut Report) {
     let scored = Sheet {
         score: b"1.5".to_vec(),
         ..plain()
@@ -126,7 +133,10 @@ pub fn sweep(report: &mut Report) {
             written_of(report, &[&good[..], behind].concat(), NUMBERS);
         }
     }
+}
 
+/// Positions of each count of digits.
+fn numbers(report: &mut Report) {
     let sheet = plain().bytes();
 
     for power in 0..20 {
@@ -138,7 +148,10 @@ pub fn sweep(report: &mut Report) {
             }
         }
     }
+}
 
+/// Every refusal before every other.
+fn refusals(report: &mut Report) {
     for start in [0, 8] {
         for end in [0, 13] {
             for score in [&b""[..], b"1", b"x"] {
@@ -161,7 +174,10 @@ pub fn sweep(report: &mut Report) {
             }
         }
     }
+}
 
+/// Texts of each length, many attributes and many values.
+fn lengths(report: &mut Report) {
     for len in 0..=70 {
         for alphabet in [&b"abcdefghijk"[..], b"%;=,&\t\n", b"a%b;cd=efg"] {
             for sheet in with_text(&texts::turns(alphabet, len)) {
@@ -187,8 +203,6 @@ pub fn sweep(report: &mut Report) {
         many.attributes = vec![(b"a".to_vec(), vec![b"1".to_vec(); len.max(1)]); len];
         written_of(report, &many.bytes(), NUMBERS);
     }
-
-    long(report);
 }
 
 /// Sheets of the greatest length, and of one byte fewer and one more, the room taken by one text, by escapes, by attributes or by
@@ -245,6 +259,10 @@ pub fn random(report: &mut Report, dice: &mut Dice) {
     if dice.once_in(3) {
         let marks = b"\t.+-?%0123456789eE#=;,=;,";
         texts::damage(dice, &mut line, marks);
+    }
+
+    if unfolding::unfolded(&line).1.is_err() {
+        return;
     }
 
     for &slack in rooms(line.len()) {
@@ -348,55 +366,69 @@ fn written_of(report: &mut Report, sheet: &[u8], numbers: [u64; 4]) {
     }
 }
 
+/// The line that is expected, or the refusal, and who decides it; or how the Rust and the refusals of RULES 11.3 disagree.
+type Expected = Result<(By, Result<Vec<u8>, u64>), Difference>;
+
 fn write(desk: &mut Desk, case: Case<'_>) -> Verdict {
     let [start, end, strand, phase] = case.numbers;
     let expected = if case.text.len() > LONGEST {
-        Err(24)
+        Ok((By::Checker, Err(24)))
     } else {
         match Sheet::read(case.text) {
-            None => Err(23),
-            Some(sheet) => expected(&sheet, case.numbers)?,
+            None => Ok((By::Checker, Err(23))),
+            Some(sheet) => expected(&sheet, case.numbers),
         }
     };
 
-    desk.lays(
-        case,
-        expected.as_deref().map_err(|&refused| refused),
-        |[sheet, ..], out| ours::write_record(sheet, start, end, strand as u32, phase as u32, out),
-        |written| written,
-    )
+    lays(desk, case, expected, |[sheet, ..], out| {
+        ours::write_record(sheet, start, end, strand as u32, phase as u32, out)
+    })
 }
 
 /// A line that unfolds, written from its sheet; the Rust reads and writes it again.
 fn rewrite(desk: &mut Desk, case: Case<'_>) -> Verdict {
-    let Ok((sheet, (start, end, strand, phase))) = unfolding::unfolded(case.text) else {
-        return Ok(());
+    let (by, Ok((sheet, (start, end, strand, phase)))) = unfolding::unfolded(case.text) else {
+        return By::Rust.says(Ok(()));
     };
     let mut line = Vec::new();
     let rust = rust::rewrite_record(case.text, &mut line).map(|()| line);
-    let expected = checked(refusal(&sheet, [start, end, strand.into(), phase.into()]), rust, &sheet)?;
+    let refused = refusal(&sheet, [start, end, strand.into(), phase.into()]);
+    let expected = checked(refused, rust, &sheet).map(|(other, line)| (by.and(other), line));
     let mut bytes = vec![0; sheet.bytes().len()];
     let laid = ours::unfold(case.text, &mut bytes);
 
-    desk.lays(
-        case,
-        expected.as_deref().map_err(|&refused| refused),
-        |_, out| {
-            ours::write_record(
-                &bytes[..laid.length],
-                laid.start,
-                laid.end,
-                laid.strand,
-                laid.phase,
-                out,
-            )
-        },
-        |written| written,
-    )
+    lays(desk, case, expected, |_, out| {
+        ours::write_record(
+            &bytes[..laid.length],
+            laid.start,
+            laid.end,
+            laid.strand,
+            laid.phase,
+            out,
+        )
+    })
+}
+
+fn lays(
+    desk: &mut Desk,
+    case: Case<'_>,
+    expected: Expected,
+    write: impl Fn([&[u8]; 3], &mut [u8]) -> ours::Written,
+) -> Verdict {
+    match expected {
+        Ok((by, line)) => desk.lays(
+            case,
+            by,
+            line.as_deref().map_err(|&refused| refused),
+            write,
+            |written| written,
+        ),
+        Err(difference) => By::Rust.says(Err(difference)),
+    }
 }
 
 /// What is expected of a sheet and its numbers.
-fn expected(sheet: &Sheet, numbers: [u64; 4]) -> Result<Result<Vec<u8>, u64>, Difference> {
+fn expected(sheet: &Sheet, numbers: [u64; 4]) -> Expected {
     let [start, end, strand, phase] = numbers;
     let values: Vec<Vec<&[u8]>> = sheet
         .attributes
@@ -424,7 +456,7 @@ fn expected(sheet: &Sheet, numbers: [u64; 4]) -> Result<Result<Vec<u8>, u64>, Di
     checked(refusal(sheet, numbers), rust::write_record(&fields), sheet)
 }
 
-/// Document 01's refusals in their order, behind 24 and 23.
+/// The refusals of RULES 11.3 in their order, behind 24 and 23.
 fn refusal(sheet: &Sheet, [start, end, strand, phase]: [u64; 4]) -> Option<u64> {
     let reasons = [
         (2, start == 0 || end == 0),
@@ -438,25 +470,26 @@ fn refusal(sheet: &Sheet, [start, end, strand, phase]: [u64; 4]) -> Option<u64> 
 
 /// What the Rust writes, with the token in column 6, or the refusal. The Rust has to fail where 18 is the refusal, and may not fail
 /// where there is none.
-fn checked(refused: Option<u64>, rust: io::Result<Vec<u8>>, sheet: &Sheet) -> Result<Result<Vec<u8>, u64>, Difference> {
+fn checked(refused: Option<u64>, rust: io::Result<Vec<u8>>, sheet: &Sheet) -> Expected {
     match (refused, rust) {
         (Some(18), Ok(line)) => Err(Difference {
             ours: "refused, 18".to_owned(),
             expected: format!("\"{}\", which the Rust writes", line.escape_ascii()),
         }),
-        (Some(number), _) => Ok(Err(number)),
+        (Some(number), _) => Ok((By::rust_if(number == 18), Err(number))),
         (None, Err(error)) => Err(Difference {
             ours: "not refused".to_owned(),
             expected: format!("a refusal, since the Rust fails: {error}"),
         }),
         (None, Ok(line)) => {
             let mut columns: Vec<&[u8]> = line.splitn(9, |&b| b == b'\t').collect();
+            let by = By::rust_if(sheet.score.is_empty());
 
-            if !sheet.score.is_empty() {
+            if by == By::Checker {
                 columns[5] = &sheet.score;
             }
 
-            Ok(Ok(columns.join(&b'\t')))
+            Ok((by, Ok(columns.join(&b'\t'))))
         }
     }
 }

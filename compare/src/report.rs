@@ -1,9 +1,7 @@
 //! The run: comparisons counted by function, and differences shown by the smallest input that was found.
 
-use std::time::{Duration, Instant};
-
 use crate::{
-    case::{Case, Verdict},
+    case::{By, Case, Verdict},
     desk::Desk,
     shrink::smallest,
     watch,
@@ -64,14 +62,71 @@ pub type Check = fn(&mut Desk, Case<'_>) -> Verdict;
 
 #[derive(Clone, Copy, Default)]
 struct Tally {
-    compared: u64,
+    rust: u64,
+    checker: u64,
     differ: u64,
+}
+
+impl Tally {
+    fn add(&mut self, other: &Self) {
+        self.rust += other.rust;
+        self.checker += other.checker;
+        self.differ += other.differ;
+    }
+
+    fn print(&self, name: &str) {
+        println!("{name:<22} {:>14} {:>14} {:>14}", self.rust, self.checker, self.differ);
+    }
+}
+
+/// The comparisons of each function.
+pub struct Counts(Vec<Tally>);
+
+impl Counts {
+    pub fn new() -> Self {
+        Self(vec![Tally::default(); Call::ALL.len()])
+    }
+
+    fn all(&self) -> Tally {
+        let mut all = Tally::default();
+        self.0.iter().for_each(|tally| all.add(tally));
+        all
+    }
+
+    pub fn compared(&self) -> u64 {
+        let all = self.all();
+        all.rust + all.checker
+    }
+
+    pub fn differ(&self) -> u64 {
+        self.all().differ
+    }
+
+    pub fn add(&mut self, other: &Self) {
+        for (tally, other) in self.0.iter_mut().zip(&other.0) {
+            tally.add(other);
+        }
+    }
+
+    /// The counts by function and by who decided, and the last line.
+    pub fn print(&self) {
+        println!(
+            "{:<22} {:>14} {:>14} {:>14}",
+            "function", "by the Rust", "by the checker", "differences"
+        );
+
+        for (call, tally) in Call::ALL.iter().zip(&self.0) {
+            tally.print(call.name());
+        }
+
+        self.all().print("all");
+        println!("{} comparisons, {} differences", self.compared(), self.differ());
+    }
 }
 
 pub struct Report {
     desk: Desk,
-    tallies: Vec<Tally>,
-    started: Instant,
+    pub counts: Counts,
     /// What is under way, for whoever wants to see a difference again.
     stage: String,
 }
@@ -80,8 +135,7 @@ impl Report {
     pub fn new() -> Self {
         Self {
             desk: Desk::new(),
-            tallies: vec![Tally::default(); Call::ALL.len()],
-            started: Instant::now(),
+            counts: Counts::new(),
             stage: String::new(),
         }
     }
@@ -90,20 +144,19 @@ impl Report {
         self.stage = stage;
     }
 
-    pub fn elapsed(&self) -> Duration {
-        self.started.elapsed()
-    }
-
     /// Compares one call. The first difference of a function is shown, all of them are counted.
     pub fn check(&mut self, call: Call, case: Case<'_>, check: Check) {
         watch::begins(call, case);
         self.desk.turn();
         let verdict = check(&mut self.desk, case);
+        let tally = &mut self.counts.0[call as usize];
 
-        let tally = &mut self.tallies[call as usize];
-        tally.compared += 1;
+        match verdict.by {
+            By::Rust => tally.rust += 1,
+            By::Checker => tally.checker += 1,
+        }
 
-        if verdict.is_err() {
+        if verdict.compared.is_err() {
             tally.differ += 1;
 
             if tally.differ == 1 {
@@ -119,36 +172,21 @@ impl Report {
             // In every way that memory is lent, since the difference may need one of them.
             (0..Desk::WAYS).find_map(|way| {
                 desk.take(way);
-                check(desk, case).err()
+                check(desk, case).compared.err()
             })
         };
 
         let least = smallest(case, |case| differs(case).is_some());
-        println!("DIFFERENCE in {} ({})", call.name(), self.stage);
-        print!("{}", least.case());
-
-        match differs(least.case()) {
-            Some(difference) => println!("  ours     {}\n  expected {}\n", difference.ours, difference.expected),
-            None => println!("  the same when called again: the answer depends on more than the input\n"),
-        }
-    }
-
-    pub fn compared(&self) -> u64 {
-        self.tallies.iter().map(|tally| tally.compared).sum()
-    }
-
-    pub fn differ(&self) -> u64 {
-        self.tallies.iter().map(|tally| tally.differ).sum()
-    }
-
-    /// The counts by function, and the last line.
-    pub fn print(&self) {
-        println!("{:<22} {:>14} {:>14}", "function", "comparisons", "differences");
-
-        for (call, tally) in Call::ALL.iter().zip(&self.tallies) {
-            println!("{:<22} {:>14} {:>14}", call.name(), tally.compared, tally.differ);
-        }
-
-        println!("{} comparisons, {} differences", self.compared(), self.differ());
+        let answers = match differs(least.case()) {
+            Some(difference) => format!("  ours     {}\n  expected {}", difference.ours, difference.expected),
+            None => "  the same when called again: the answer depends on more than the input".to_owned(),
+        };
+        // In one piece, since each group has a thread.
+        println!(
+            "DIFFERENCE in {} ({})\n{}{answers}\n",
+            call.name(),
+            self.stage,
+            least.case()
+        );
     }
 }

@@ -1,4 +1,4 @@
-//! The grammar of a score token, from document 01's sentence alone: optional `-`, digits, optional `.` and digits, optional
+//! The grammar of a score token, from the sentence of RULES 4.2 alone: optional `-`, digits, optional `.` and digits, optional
 //! `e` or `E` with optional sign and digits; each run of digits has at least one.
 
 /// A piece of the grammar.

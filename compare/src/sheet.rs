@@ -1,4 +1,4 @@
-//! The field sheet, from document 01's sentences alone: sections in a fixed order, each after its count of four bytes, low byte
+//! The field sheet, from the sentences of RULES 9.1 alone: sections in a fixed order, each after its count of four bytes, low byte
 //! first; then the attributes, each a tag, a count of values that is not 0, and the values.
 
 /// A tag and its values.

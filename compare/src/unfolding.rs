@@ -6,7 +6,7 @@ use oracle::io::api::{
 };
 
 use crate::{
-    case::{Case, Slack, Verdict, same},
+    case::{By, Case, Slack, Verdict, same},
     desk::{Desk, rooms},
     numbers,
     ours::{self, Unfolded},
@@ -54,8 +54,19 @@ pub fn every(report: &mut Report, len: usize) {
     }
 }
 
-/// Each column of each length; every refusal before every other; and the longest line, and one longer.
 pub fn sweep(report: &mut Report) {
+    lengths(report);
+    close(report);
+    texts::beside_greatest(|number| {
+        report.check(Call::Judge, Case::of(&with(4, number.as_bytes())), judge);
+        report.check(Call::Judge, Case::of(&with(5, number.as_bytes())), judge);
+    });
+    refusals(report);
+    long(report);
+}
+
+/// Each column of each length.
+fn lengths(report: &mut Report) {
     for column in 1..=9 {
         for len in 0..=70 {
             line_of(report, &with(column, &vec![b'1'; len]));
@@ -63,8 +74,10 @@ pub fn sweep(report: &mut Report) {
             line_of(report, &with(column, &texts::turns(b"a=bcd,ef;g", len)));
         }
     }
+}
 
-    // Short lines whose texts stand close to the sheet's buffer, each in the ways that memory is lent.
+/// Short lines whose texts stand close to the sheet's buffer, each in the ways that memory is lent.
+fn close(report: &mut Report) {
     for len in 0..=40 {
         for (column, alphabet) in [
             (0, b"abcdefghijk"),
@@ -82,13 +95,10 @@ pub fn sweep(report: &mut Report) {
             }
         }
     }
+}
 
-    texts::beside_greatest(|number| {
-        report.check(Call::Judge, Case::of(&with(4, number.as_bytes())), judge);
-        report.check(Call::Judge, Case::of(&with(5, number.as_bytes())), judge);
-    });
-
-    // Which of the columns from 4 on are bad, each in two ways.
+/// Every refusal before every other: which of the columns from 4 on are bad, each in three ways.
+fn refusals(report: &mut Report) {
     let bad: [[&[u8]; 2]; 6] = [
         [b"0", b"x"],
         [b"", b"+1"],
@@ -111,7 +121,10 @@ pub fn sweep(report: &mut Report) {
 
         line_of(report, &columns.join(&b'\t'));
     }
+}
 
+/// The longest line, one shorter and one longer.
+fn long(report: &mut Report) {
     for len in [LONGEST - 1, LONGEST, LONGEST + 1] {
         let short = with(9, b"").len();
 
@@ -190,14 +203,30 @@ fn with(column: usize, text: &[u8]) -> Vec<u8> {
 type Numbers = (u64, u64, u32, u32);
 
 /// The sheet and the numbers of a line, or the refusal.
-pub fn unfolded(line: &[u8]) -> Result<(Sheet, Numbers), u64> {
+pub type Unfold = Result<(Sheet, Numbers), u64>;
+
+/// What a line unfolds to, and who decides it. The limit and a score that is there are the checker's (RULES 11.2).
+pub fn unfolded(line: &[u8]) -> (By, Unfold) {
     if line.len() > LONGEST {
-        return Err(24);
+        return (By::Checker, Err(24));
     }
 
-    let columns = rust::columns(line).ok_or(1u64)?;
-    let start = numbers::position(columns[3], || rust::start(line)).map_err(u64::from)?;
-    let end = numbers::position(columns[4], || rust::end(line)).map_err(u64::from)?;
+    let Some(columns) = rust::columns(line) else {
+        return (By::Rust, Err(1));
+    };
+    let (by_start, start) = numbers::position(columns[3], || rust::start(line));
+    let (by_end, end) = numbers::position(columns[4], || rust::end(line));
+    let (Ok(start), Ok(end)) = (start, end) else {
+        let by = if start.is_err() { by_start } else { by_start.and(by_end) };
+        return (by, Err(2));
+    };
+    let by_score = By::rust_if(columns[5] == b".");
+
+    (by_start.and(by_end).and(by_score), rest(line, &columns, start, end))
+}
+
+/// The same behind start and end.
+fn rest(line: &[u8], columns: &[&[u8]; 9], start: u64, end: u64) -> Unfold {
     let score = match columns[5] {
         b"." => b"",
         token if score::is_token(token) => token,
@@ -249,21 +278,23 @@ fn answer((start, end, strand, phase): Numbers, refused: u64, length: usize) -> 
 }
 
 fn judge(desk: &mut Desk, case: Case<'_>) -> Verdict {
-    let expected = match unfolded(case.text) {
+    let (by, unfolded) = unfolded(case.text);
+    let expected = match unfolded {
         Ok((sheet, numbers)) => answer(numbers, 0, sheet.bytes().len()),
         Err(refused) => answer(Numbers::default(), refused, 0),
     };
 
-    same(ours::judge(desk.text(case.text)), expected)
+    by.says(same(ours::judge(desk.text(case.text)), expected))
 }
 
 fn unfold(desk: &mut Desk, case: Case<'_>) -> Verdict {
-    let unfolded = unfolded(case.text);
+    let (by, unfolded) = unfolded(case.text);
     let numbers = unfolded.as_ref().map_or(Numbers::default(), |(_, numbers)| *numbers);
     let sheet = unfolded.map(|(sheet, _)| sheet.bytes());
 
     desk.lays(
         case,
+        by,
         sheet.as_deref().map_err(|&refused| refused),
         |[line, ..], out| ours::unfold(line, out),
         |written| answer(numbers, written.refused, written.length),

@@ -125,7 +125,7 @@ fn shown(number: Option<u64>) -> String {
     number.map_or("! ".into(), |n| format!("{n} "))
 }
 
-/// Document 01's samples, RFC 3986's examples (sections 2.1, 2.4, 2.5 and 6.2.2.1) and mixtures.
+/// The samples of RULES 14, RFC 3986's examples (sections 2.1, 2.4, 2.5 and 6.2.2.1) and mixtures.
 pub fn decoding(list: &mut List) {
     list.title("d TEXT ROOM: decoding");
     let mut dice = Dice::new(3);

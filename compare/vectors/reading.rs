@@ -1,4 +1,4 @@
-//! Cases of lines, columns, attributes and directives: document 01's sample lines, and texts made of the bytes that matter.
+//! Cases of lines, columns, attributes and directives: the sample lines of RULES 14, and texts made of the bytes that matter.
 
 use oracle::io::api::{
     attributes::{self, Value},
@@ -133,8 +133,8 @@ pub fn columns(list: &mut List) {
     }
 }
 
-/// Each field as the program shows it. The score's grammar is document 01's, so the list has only tokens on which it and the Rust
-/// agree.
+/// Each field as the program shows it. The score's grammar is that of RULES 4.2, so the list has only tokens on which it and the
+/// Rust agree.
 fn fields(line: &[u8]) -> String {
     let number = |answer: Result<u64, u8>| answer.map_or_else(|n| format!("! {n} "), |n| format!("{n} "));
     let text = |answer: Result<Vec<u8>, u8>| written(&answer.expect("the line is a record"), ROOM);
@@ -160,7 +160,7 @@ fn fields(line: &[u8]) -> String {
 }
 
 pub fn attributes(list: &mut List) {
-    list.title("W COLUMN: each tag and value as they stand, and a dot or 5");
+    list.title("F COLUMN: the first tag and value as they stand, or a dot or 5; W COLUMN: each, and a dot or 5");
     let mut dice = Dice::new(7);
     let mut texts: Vec<Vec<u8>> = [
         "",
@@ -188,14 +188,13 @@ pub fn attributes(list: &mut List) {
 
     for text in &texts {
         let (fields, refused) = attributes::walk(text);
-        let shown: String = fields
+        let end = if refused.is_some() { "! 5 " } else { ". " };
+        let shown: Vec<String> = fields
             .iter()
             .map(|(tag, value)| format!("{} {} ", hex(tag), hex(value)))
             .collect();
-        list.case(
-            &format!("W {}", hex(text)),
-            &format!("{shown}{}", if refused.is_some() { "! 5 " } else { ". " }),
-        );
+        list.case(&format!("F {}", hex(text)), shown.first().map_or(end, String::as_str));
+        list.case(&format!("W {}", hex(text)), &format!("{}{end}", shown.concat()));
     }
 
     list.title("V VALUE: each value, decoded, and a dot");

@@ -1,4 +1,4 @@
-//! Cases of unfolding and writing: the sheet of what the Rust reads, the lines that it writes, and document 01's refusals.
+//! Cases of unfolding and writing: the sheet of what the Rust reads, the lines that it writes, and the refusals of RULES 11.
 
 use oracle::io::api::{
     attributes::{self, Value},
@@ -14,7 +14,7 @@ use crate::{
 /// The largest buffer that the program lends.
 const ROOM: usize = 512;
 
-/// Document 01's samples of lines, and what refuses a line, one by one and each before those that come later.
+/// The sample lines of RULES 14, and what refuses a line, one by one and each before those that come later.
 const LINES: [&str; 26] = [
     "sq0\tlab\tgene\t8\t13\t.\t+\t.\ta=1;b;c=2",
     "s%20q\tl%61b\tCDS\t008\t18446744073709551615\t-1.50e3\t-\t2\ta=x%2Cy,z;%41=",
@@ -92,7 +92,7 @@ pub fn unfolding(list: &mut List) {
 }
 
 /// Start, end, strand and phase as the program shows them, and the sheet; or the refusal. The list has only scores on which
-/// document 01's grammar and the Rust agree, and no signed position.
+/// the grammar of RULES 4.2 and the Rust agree, and no signed position.
 fn unfolded(line: &[u8]) -> Result<(String, Vec<u8>), u8> {
     let columns = record::columns(line).ok_or(1)?;
     let (start, end) = (record::start(line)?, record::end(line)?);

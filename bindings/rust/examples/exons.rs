@@ -7,27 +7,25 @@
 use std::{
     env, fs,
     io::{self, Write},
+    path::Path,
     process::ExitCode,
 };
 
-use gff3_lines::{Kind, Record, Refusal, Strand, Values, decode, lines};
+use gff3_lines::{Kind, Record, Refusal, Values, decode_into, lines};
 
 fn main() -> ExitCode {
-    let Some(name) = env::args_os().nth(1) else {
-        eprintln!("usage: exons FILE");
-        return ExitCode::FAILURE;
-    };
-    let text = match fs::read(&name) {
-        Ok(text) => text,
-        Err(error) => {
-            eprintln!("{}: {error}", name.display());
+    let name = match env::args_os().nth(1) {
+        Some(name) => name,
+        None => {
+            eprintln!("usage: exons FILE");
             return ExitCode::FAILURE;
         }
     };
-    match print_exons(&text, &mut io::stdout().lock()) {
+    let printed = fs::read(&name).and_then(|text| print_exons(&text, &mut io::stdout().lock()));
+    match printed {
         Ok(()) => ExitCode::SUCCESS,
         Err(error) => {
-            eprintln!("{error}");
+            eprintln!("{}: {error}", Path::new(&name).display());
             ExitCode::FAILURE
         }
     }
@@ -53,18 +51,12 @@ fn exon(record: &Record) -> Result<Option<Vec<u8>>, Refusal> {
     if record.ty() != b"exon" {
         return Ok(None);
     }
-    let strand = match record.strand()? {
-        Strand::None => '.',
-        Strand::Forward => '+',
-        Strand::Reverse => '-',
-        Strand::Unknown => '?',
-    };
     let mut exon = record.reference_sequence_name();
-    exon.extend(format!(" {} {} {strand}", record.start()?, record.end()?).bytes());
+    exon.extend(format!(" {} {} {}", record.start()?, record.end()?, record.strand()?).bytes());
     if let Some(parents) = record.attributes().get(b"Parent")? {
         for parent in Values::new(parents) {
             exon.push(b' ');
-            exon.extend(decode(parent));
+            decode_into(parent, &mut exon);
         }
     }
     exon.push(b'\n');

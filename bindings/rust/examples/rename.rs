@@ -11,13 +11,16 @@ use std::{
     process::ExitCode,
 };
 
-use gff3_lines::{Kind, Line, Refusal, Region, Sheet, Value, lines, write_directive};
+use gff3_lines::{Kind, Line, Refusal, Region, Sheet, Value, lines, write_directive_into};
 
 fn main() -> ExitCode {
     let words: Vec<_> = env::args().skip(1).collect();
-    let [file, old, new] = words.as_slice() else {
-        eprintln!("usage: rename FILE OLD NEW");
-        return ExitCode::FAILURE;
+    let (file, old, new) = match words.as_slice() {
+        [file, old, new] => (file, old, new),
+        _ => {
+            eprintln!("usage: rename FILE OLD NEW");
+            return ExitCode::FAILURE;
+        }
     };
     let renamed =
         fs::read(file).and_then(|text| rename(&text, old.as_bytes(), new.as_bytes(), &mut io::stdout().lock()));
@@ -32,31 +35,41 @@ fn main() -> ExitCode {
 
 /// A line that is refused is said so in its place.
 fn rename(text: &[u8], old: &[u8], new: &[u8], out: &mut impl Write) -> io::Result<()> {
+    let mut written = Vec::new();
     for line in lines(text) {
-        match renamed(line, old, new) {
-            Ok(line) => out.write_all(&line)?,
-            Err(refusal) => write!(out, "! {refusal}")?,
+        written.clear();
+        if let Err(refusal) = renamed_into(line, old, new, &mut written) {
+            write!(written, "! {refusal}")?;
         }
-        out.write_all(b"\n")?;
+        written.push(b'\n');
+        out.write_all(&written)?;
     }
     Ok(())
 }
 
-fn renamed(line: Line, old: &[u8], new: &[u8]) -> Result<Vec<u8>, Refusal> {
+fn renamed_into(line: Line, old: &[u8], new: &[u8], out: &mut Vec<u8>) -> Result<(), Refusal> {
     if line.kind() == Kind::Record && !line.bytes().is_empty() {
         let mut sheet = Sheet::of_line(line.bytes())?;
         if sheet.reference_sequence_name == old {
             sheet.reference_sequence_name = new.to_vec();
         }
-        return sheet.line();
+        return sheet.line_into(out);
     }
-    if let Some(directive) = line.directive()
-        && directive.key == b"sequence-region"
-    {
-        let region = Region::parse(directive.value.unwrap_or_default())?;
+    if let Some(region) = region(line)? {
         if region.name == old {
-            return write_directive(directive.key, Value::Region(Region { name: new, ..region }));
+            return write_directive_into(REGION, Value::Region(Region { name: new, ..region }), out);
         }
     }
-    Ok(line.bytes().to_vec())
+    out.extend(line.bytes());
+    Ok(())
+}
+
+const REGION: &[u8] = b"sequence-region";
+
+/// The region of a line that is one.
+fn region(line: Line) -> Result<Option<Region>, Refusal> {
+    let directive = line.directive().filter(|directive| directive.key == REGION);
+    directive
+        .map(|directive| Region::parse(directive.value.unwrap_or_default()))
+        .transpose()
 }

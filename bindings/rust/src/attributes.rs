@@ -12,6 +12,10 @@ use crate::{Refusal, ffi};
 /// let attributes = gff3_lines::Attributes(b"ID=a;Parent=b,c");
 ///
 /// assert_eq!(attributes.get(b"Parent")?, Some(&b"b,c"[..]));
+/// for field in &attributes {
+///     let field = field?;
+///     println!("{} has {} values", field.tag.escape_ascii(), field.values().count());
+/// }
 /// # Ok::<(), gff3_lines::Refusal>(())
 /// ```
 #[derive(Clone, Copy, Debug, PartialEq, Eq, Hash)]
@@ -29,7 +33,8 @@ impl<'a> Attributes<'a> {
         unsafe { ffi::gff3_no_attributes(self.0.as_ptr(), self.0.len()) != 0 }
     }
 
-    /// The attributes in order, as they stand. Refusal 5, where text is left without `=`, is the last that the iterator gives.
+    /// The attributes in order, as they stand. [`Refusal::Attribute`], where text is left without `=`, is the last that the iterator
+    /// gives. A loop over the column itself is a loop over these.
     ///
     /// ```
     /// use gff3_lines::{Attributes, Field, Refusal};
@@ -37,7 +42,7 @@ impl<'a> Attributes<'a> {
     /// let mut fields = Attributes(b"a=1;b").fields();
     ///
     /// assert_eq!(fields.next(), Some(Ok(Field { tag: b"a", value: b"1" })));
-    /// assert_eq!(fields.next(), Some(Err(Refusal(5))));
+    /// assert_eq!(fields.next(), Some(Err(Refusal::Attribute)));
     /// assert_eq!(fields.next(), None);
     /// ```
     pub fn fields(self) -> Fields<'a> {
@@ -47,21 +52,39 @@ impl<'a> Attributes<'a> {
         }
     }
 
-    /// The value, as it stands, of the first attribute whose decoded tag is `tag`; `None` where there is none. Refusal 5, where text is
-    /// left without `=` and no match comes before it.
+    /// The value, as it stands, of the first attribute whose decoded tag is `tag`; `None` where there is none. Refusal:
+    /// [`Attribute`](Refusal::Attribute), text is left without `=` and no match comes before it.
     ///
     /// ```
     /// use gff3_lines::{Attributes, Refusal};
     ///
     /// assert_eq!(Attributes(b"a%3D=1;a%3D=2;b").get(b"a="), Ok(Some(&b"1"[..])));
     /// assert_eq!(Attributes(b"a=1;").get(b"b"), Ok(None));
-    /// assert_eq!(Attributes(b"a=1;b").get(b"b"), Err(Refusal(5)));
+    /// assert_eq!(Attributes(b"a=1;b").get(b"b"), Err(Refusal::Attribute));
     /// ```
     pub fn get(self, tag: &[u8]) -> Result<Option<&'a [u8]>, Refusal> {
         // SAFETY: the column and the tag are slices.
         let found = unsafe { ffi::gff3_find_tag(self.0.as_ptr(), self.0.len(), tag.as_ptr(), tag.len()) };
         Refusal::check(found.refused)?;
         Ok((found.found != 0).then(|| &self.0[found.start..found.end]))
+    }
+}
+
+impl<'a> IntoIterator for Attributes<'a> {
+    type Item = Result<Field<'a>, Refusal>;
+    type IntoIter = Fields<'a>;
+
+    fn into_iter(self) -> Fields<'a> {
+        self.fields()
+    }
+}
+
+impl<'a> IntoIterator for &Attributes<'a> {
+    type Item = Result<Field<'a>, Refusal>;
+    type IntoIter = Fields<'a>;
+
+    fn into_iter(self) -> Fields<'a> {
+        self.fields()
     }
 }
 
@@ -103,7 +126,7 @@ impl<'a> Field<'a> {
 #[derive(Clone, Debug)]
 pub struct Fields<'a> {
     column: &'a [u8],
-    /// The cursor, and none behind a refusal.
+    /// The cursor, and `None` behind a refusal.
     at: Option<usize>,
 }
 

@@ -1,6 +1,11 @@
 //! Percent coding, and positions.
 
-use crate::{Refusal, ffi, record::number};
+use crate::{
+    Refusal,
+    buffer::{append, made},
+    ffi,
+    record::number,
+};
 
 /// The text, percent-decoded, once: `%` and two hex digits of either case give a byte, and any other `%` stays. `+` is no space.
 ///
@@ -9,9 +14,25 @@ use crate::{Refusal, ffi, record::number};
 /// assert_eq!(gff3_lines::decode(b"%2541"), b"%41");
 /// ```
 pub fn decode(text: &[u8]) -> Vec<u8> {
-    // SAFETY: the text is a slice, and the buffer another. No refusal is given but 22, which has its room.
-    filled(|out| unsafe { ffi::gff3_decode(text.as_ptr(), text.len(), out.as_mut_ptr(), out.len()) })
-        .unwrap_or_default()
+    let mut out = Vec::new();
+    decode_into(text, &mut out);
+    out
+}
+
+/// [`decode`], appended to a buffer.
+///
+/// ```
+/// let mut out = b"a".to_vec();
+/// gff3_lines::decode_into(b"%2Cb", &mut out);
+///
+/// assert_eq!(out, b"a,b");
+/// ```
+pub fn decode_into(text: &[u8], out: &mut Vec<u8>) {
+    // SAFETY: the text is a slice, and the buffer another.
+    let decoded = append(out, text.len(), |out| unsafe {
+        ffi::gff3_decode(text.as_ptr(), text.len(), out.as_mut_ptr().cast(), out.len())
+    });
+    debug_assert_eq!(decoded, Ok(()), "no text is refused");
 }
 
 /// Which bytes are escaped.
@@ -34,44 +55,56 @@ pub enum Set {
     Attribute = 3,
 }
 
-/// The text, percent-encoded, with capital hex digits. Refusal 24: it has over 1,048,576 bytes.
+/// The text, percent-encoded, with capital hex digits. Refusal: [`TooLong`](Refusal::TooLong), it has over 1,048,576 bytes.
 ///
 /// ```
 /// use gff3_lines::{Refusal, Set, encode};
 ///
 /// assert_eq!(encode(Set::Attribute, b"a,b%")?, b"a%2Cb%25");
-/// assert_eq!(encode(Set::Attribute, &[0; 1_048_577]), Err(Refusal(24)));
+/// assert_eq!(encode(Set::Attribute, &[0; 1_048_577]), Err(Refusal::TooLong));
 /// # Ok::<(), Refusal>(())
 /// ```
 pub fn encode(set: Set, text: &[u8]) -> Result<Vec<u8>, Refusal> {
-    // SAFETY: the text is a slice, and the buffer another.
-    filled(|out| unsafe { ffi::gff3_encode(set as u32, text.as_ptr(), text.len(), out.as_mut_ptr(), out.len()) })
+    made(|out| encode_into(set, text, out))
 }
 
-/// A position, as columns 4 and 5 have it: one or more digits, from 1 to 18446744073709551615. Refusal 2: it is none.
+/// [`encode`], appended to a buffer.
+///
+/// ```
+/// use gff3_lines::{Set, encode_into};
+///
+/// let mut out = b"Note=".to_vec();
+/// encode_into(Set::Attribute, b"a,b", &mut out)?;
+///
+/// assert_eq!(out, b"Note=a%2Cb");
+/// # Ok::<(), gff3_lines::Refusal>(())
+/// ```
+pub fn encode_into(set: Set, text: &[u8], out: &mut Vec<u8>) -> Result<(), Refusal> {
+    // An escape is two bytes longer than its byte, and 16 are seldom passed.
+    let guess = text.len() + 2 * 16;
+    // SAFETY: the text is a slice, and the buffer another.
+    append(out, guess, |out| unsafe {
+        ffi::gff3_encode(
+            set as u32,
+            text.as_ptr(),
+            text.len(),
+            out.as_mut_ptr().cast(),
+            out.len(),
+        )
+    })
+}
+
+/// A position, as columns 4 and 5 have it: one or more digits, from 1 to 18446744073709551615. Refusal:
+/// [`Position`](Refusal::Position), it is none.
 ///
 /// ```
 /// use gff3_lines::{Refusal, position};
 ///
 /// assert_eq!(position(b"18446744073709551615"), Ok(u64::MAX));
-/// assert_eq!(position(b"18446744073709551616"), Err(Refusal(2)));
-/// assert_eq!(position(b"+8"), Err(Refusal(2)));
+/// assert_eq!(position(b"18446744073709551616"), Err(Refusal::Position));
+/// assert_eq!(position(b"+8"), Err(Refusal::Position));
 /// ```
 pub fn position(text: &[u8]) -> Result<u64, Refusal> {
     // SAFETY: the text is a slice.
     number(unsafe { ffi::gff3_position(text.as_ptr(), text.len()) })
-}
-
-/// The refusal that carries the length needed.
-const NO_ROOM: u64 = 22;
-
-/// What a writer writes: it is measured by a call with no room, and then written.
-pub(crate) fn filled(write: impl Fn(&mut [u8]) -> ffi::Written) -> Result<Vec<u8>, Refusal> {
-    let measured = write(&mut []);
-    if measured.refused != NO_ROOM {
-        return Refusal::check(measured.refused).map(|()| Vec::new());
-    }
-    let mut out = vec![0; measured.length];
-    let written = write(&mut out);
-    Refusal::check(written.refused).map(|()| out)
 }

@@ -1,5 +1,7 @@
 //! The typed values of three directives.
 
+use std::{fmt, str::FromStr};
+
 use crate::{Refusal, ffi};
 
 /// The value of `gff-version`.
@@ -20,15 +22,15 @@ pub struct Version {
 }
 
 impl Version {
-    /// At most three parts, cut at the first two dots; each may begin with one `+`. Refusals: 6, the text is empty; 7, 8, 9, major,
-    /// minor, patch is not valid.
+    /// At most three parts, cut at the first two dots; each may begin with one `+`. Refusals, from left to right:
+    /// [`Empty`](Refusal::Empty), [`Major`](Refusal::Major), [`Minor`](Refusal::Minor), [`Patch`](Refusal::Patch).
     ///
     /// ```
     /// use gff3_lines::{Refusal, Version};
     ///
     /// assert_eq!(Version::parse(b"+3").map(|version| version.major), Ok(3));
-    /// assert_eq!(Version::parse(b"3."), Err(Refusal(8)));
-    /// assert_eq!(Version::parse(b"3.1.26.4"), Err(Refusal(9)));
+    /// assert_eq!(Version::parse(b"3."), Err(Refusal::Minor));
+    /// assert_eq!(Version::parse(b"3.1.26.4"), Err(Refusal::Patch));
     /// ```
     pub fn parse(text: &[u8]) -> Result<Self, Refusal> {
         // SAFETY: the text is a slice.
@@ -39,6 +41,33 @@ impl Version {
             minor: (version.parts > 1).then_some(version.minor as u32),
             patch: (version.parts > 2).then_some(version.patch as u32),
         })
+    }
+}
+
+impl TryFrom<&[u8]> for Version {
+    type Error = Refusal;
+
+    fn try_from(text: &[u8]) -> Result<Self, Refusal> {
+        Version::parse(text)
+    }
+}
+
+impl FromStr for Version {
+    type Err = Refusal;
+
+    fn from_str(text: &str) -> Result<Self, Refusal> {
+        Version::parse(text.as_bytes())
+    }
+}
+
+/// The parts with dots between them; a patch without a minor is left out.
+impl fmt::Display for Version {
+    fn fmt(&self, f: &mut fmt::Formatter<'_>) -> fmt::Result {
+        match (self.minor, self.patch) {
+            (None, _) => write!(f, "{}", self.major),
+            (Some(minor), None) => write!(f, "{}.{minor}", self.major),
+            (Some(minor), Some(patch)) => write!(f, "{}.{minor}.{patch}", self.major),
+        }
     }
 }
 
@@ -60,14 +89,15 @@ pub struct Region<'a> {
 }
 
 impl<'a> Region<'a> {
-    /// Three words between ASCII white space; more are ignored. Refusals, from left to right: 6, the text is empty; 10, the name is
-    /// missing; 11, 12, the start is missing, or not valid; 13, 14, so for the end.
+    /// Three words between ASCII white space; more are ignored. Refusals, from left to right: [`Empty`](Refusal::Empty),
+    /// [`RegionNameMissing`](Refusal::RegionNameMissing), [`RegionStartMissing`](Refusal::RegionStartMissing),
+    /// [`RegionStart`](Refusal::RegionStart), [`RegionEndMissing`](Refusal::RegionEndMissing), [`RegionEnd`](Refusal::RegionEnd).
     ///
     /// ```
     /// use gff3_lines::{Refusal, Region};
     ///
-    /// assert_eq!(Region::parse(b"sq0 8"), Err(Refusal(13)));
-    /// assert_eq!(Region::parse(b"sq0 0 9"), Err(Refusal(12)));
+    /// assert_eq!(Region::parse(b"sq0 8"), Err(Refusal::RegionEndMissing));
+    /// assert_eq!(Region::parse(b"sq0 0 9"), Err(Refusal::RegionStart));
     /// ```
     pub fn parse(text: &'a [u8]) -> Result<Self, Refusal> {
         // SAFETY: the text is a slice.
@@ -78,6 +108,14 @@ impl<'a> Region<'a> {
             start: region.start,
             end: region.end,
         })
+    }
+}
+
+impl<'a> TryFrom<&'a [u8]> for Region<'a> {
+    type Error = Refusal;
+
+    fn try_from(text: &'a [u8]) -> Result<Self, Refusal> {
+        Region::parse(text)
     }
 }
 
@@ -97,13 +135,14 @@ pub struct Build<'a> {
 }
 
 impl<'a> Build<'a> {
-    /// Two words between ASCII white space; more are ignored. Refusals: 6, the text is empty; 15, 16, the source, the name is missing.
+    /// Two words between ASCII white space; more are ignored. Refusals, from left to right: [`Empty`](Refusal::Empty),
+    /// [`BuildSourceMissing`](Refusal::BuildSourceMissing), [`BuildNameMissing`](Refusal::BuildNameMissing).
     ///
     /// ```
     /// use gff3_lines::{Build, Refusal};
     ///
-    /// assert_eq!(Build::parse(b" "), Err(Refusal(15)));
-    /// assert_eq!(Build::parse(b"NCBI"), Err(Refusal(16)));
+    /// assert_eq!(Build::parse(b" "), Err(Refusal::BuildSourceMissing));
+    /// assert_eq!(Build::parse(b"NCBI"), Err(Refusal::BuildNameMissing));
     /// ```
     pub fn parse(text: &'a [u8]) -> Result<Self, Refusal> {
         // SAFETY: the text is a slice.
@@ -113,5 +152,13 @@ impl<'a> Build<'a> {
             source: &text[build.source_start..build.source_end],
             name: &text[build.name_start..build.name_end],
         })
+    }
+}
+
+impl<'a> TryFrom<&'a [u8]> for Build<'a> {
+    type Error = Refusal;
+
+    fn try_from(text: &'a [u8]) -> Result<Self, Refusal> {
+        Build::parse(text)
     }
 }

@@ -118,6 +118,7 @@ pub struct BuildValue {
 }
 
 #[repr(C)]
+#[derive(Default)]
 pub struct Unfolded {
     pub refused: u64,
     pub length: usize,
@@ -128,7 +129,7 @@ pub struct Unfolded {
 }
 
 #[repr(C)]
-#[derive(Default)]
+#[derive(Clone, Copy, Default)]
 pub struct DirectiveValue {
     pub kind: u32,
     pub major: u32,
@@ -140,7 +141,7 @@ pub struct DirectiveValue {
     pub end: u64,
 }
 
-unsafe extern "C" {
+extern "C" {
     pub fn gff3_next_line(text: *const u8, text_len: usize, at: usize) -> Line;
     pub fn gff3_kind(line: *const u8, line_len: usize) -> u32;
     pub fn gff3_comment(line: *const u8, line_len: usize) -> CommentText;

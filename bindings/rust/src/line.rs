@@ -1,5 +1,7 @@
 //! The lines of a text, and what each is.
 
+use std::{fmt, iter::FusedIterator};
+
 use crate::{Record, Refusal, ffi};
 
 /// The lines of a text, in order.
@@ -13,7 +15,7 @@ use crate::{Record, Refusal, ffi};
 /// assert_eq!(lines, [&b"a"[..], b"", b"b"]);
 /// ```
 pub fn lines(text: &[u8]) -> Lines<'_> {
-    Lines { text, at: 0 }
+    Lines::starting_at(text, 0)
 }
 
 /// The iterator of [`lines`].
@@ -41,7 +43,10 @@ impl<'a> Lines<'a> {
     /// assert!(gff3_lines::Lines::starting_at(b"a\nb\n", 9).next().is_none());
     /// ```
     pub fn starting_at(text: &'a [u8], at: usize) -> Self {
-        Lines { text, at }
+        Lines {
+            text,
+            at: at.min(text.len()),
+        }
     }
 
     /// Where the next line begins, or the text's end where none is left.
@@ -71,7 +76,7 @@ impl<'a> Iterator for Lines<'a> {
     }
 }
 
-impl std::iter::FusedIterator for Lines<'_> {}
+impl FusedIterator for Lines<'_> {}
 
 /// A line, without its line feed.
 ///
@@ -100,6 +105,16 @@ pub enum Kind {
     Comment,
     /// Every other line, the empty one included.
     Record,
+}
+
+impl fmt::Display for Kind {
+    fn fmt(&self, f: &mut fmt::Formatter<'_>) -> fmt::Result {
+        f.pad(match self {
+            Kind::Directive => "directive",
+            Kind::Comment => "comment",
+            Kind::Record => "record",
+        })
+    }
 }
 
 /// The key and the value of a directive.
@@ -176,13 +191,14 @@ impl<'a> Line<'a> {
         })
     }
 
-    /// The columns of the line, taken as a record without a look at its kind. Refusal 1: it has fewer than eight tabs.
+    /// The columns of the line, taken as a record without a look at its kind. Refusal: [`Columns`](Refusal::Columns), it has fewer
+    /// than eight tabs.
     ///
     /// ```
     /// use gff3_lines::{Line, Refusal};
     ///
     /// assert!(Line(b"\t\t\t\t\t\t\t\t").record().is_ok());
-    /// assert_eq!(Line(b"\t\t\t\t\t\t\t").record(), Err(Refusal(1)));
+    /// assert_eq!(Line(b"\t\t\t\t\t\t\t").record(), Err(Refusal::Columns));
     /// ```
     pub fn record(self) -> Result<Record<'a>, Refusal> {
         Record::new(self.0)

@@ -1,6 +1,6 @@
 //! The columns of a record.
 
-use crate::{Attributes, Refusal, coding::filled, ffi};
+use crate::{Attributes, Column, Phase, Refusal, Strand, buffer::append, ffi};
 
 /// Where columns 1 to 8 end: one past each of the first eight tabs. Column 9 is the rest.
 ///
@@ -31,95 +31,6 @@ pub struct Bounds {
     pub phase_end: usize,
 }
 
-/// A column, by its number.
-///
-/// ```
-/// assert_eq!(gff3_lines::Column::Strand as u32, 7);
-/// ```
-#[derive(Clone, Copy, Debug, PartialEq, Eq, Hash)]
-pub enum Column {
-    /// Percent-encoded.
-    ReferenceSequenceName = 1,
-    /// Percent-encoded.
-    Source = 2,
-    /// Percent-encoded.
-    Type = 3,
-    /// A position.
-    Start = 4,
-    /// A position.
-    End = 5,
-    /// A token, or a dot.
-    Score = 6,
-    /// One of `.+-?`.
-    Strand = 7,
-    /// One of `.012`.
-    Phase = 8,
-    /// The rest of the line.
-    Attributes = 9,
-}
-
-/// A strand.
-///
-/// ```
-/// let record = gff3_lines::Record::new(b"a\tb\tc\t1\t2\t.\t-\t.\t.")?;
-///
-/// assert_eq!(record.strand()?, gff3_lines::Strand::Reverse);
-/// # Ok::<(), gff3_lines::Refusal>(())
-/// ```
-#[derive(Clone, Copy, Debug, PartialEq, Eq, Hash)]
-pub enum Strand {
-    /// `.`
-    None,
-    /// `+`
-    Forward,
-    /// `-`
-    Reverse,
-    /// `?`
-    Unknown,
-}
-
-impl Strand {
-    /// The strand of the library's number.
-    pub(crate) fn of(number: u64) -> Self {
-        match number {
-            0 => Strand::None,
-            1 => Strand::Forward,
-            2 => Strand::Reverse,
-            _ => Strand::Unknown,
-        }
-    }
-}
-
-/// A phase: how many bases to pass over to the next codon.
-///
-/// ```
-/// let record = gff3_lines::Record::new(b"a\tb\tCDS\t1\t2\t.\t-\t2\t.")?;
-///
-/// assert_eq!(record.phase()?, Some(gff3_lines::Phase::Two));
-/// # Ok::<(), gff3_lines::Refusal>(())
-/// ```
-#[derive(Clone, Copy, Debug, PartialEq, Eq, Hash)]
-pub enum Phase {
-    /// `0`
-    Zero,
-    /// `1`
-    One,
-    /// `2`
-    Two,
-}
-
-impl Phase {
-    /// The phase of the library's number, or none.
-    pub(crate) fn of(number: u64) -> Option<Self> {
-        match number {
-            0 => Some(Phase::Zero),
-            1 => Some(Phase::One),
-            2 => Some(Phase::Two),
-            _ => None,
-        }
-    }
-}
-
 /// A line of nine columns, and where they end.
 ///
 /// ```
@@ -137,12 +48,12 @@ pub struct Record<'a> {
 }
 
 impl<'a> Record<'a> {
-    /// The record of a line without its line feed. Refusal 1: it has fewer than eight tabs.
+    /// The record of a line without its line feed. Refusal: [`Columns`](Refusal::Columns), it has fewer than eight tabs.
     ///
     /// ```
     /// use gff3_lines::{Record, Refusal};
     ///
-    /// assert_eq!(Record::new(b"sq0"), Err(Refusal(1)));
+    /// assert_eq!(Record::new(b"sq0"), Err(Refusal::Columns));
     /// ```
     pub fn new(line: &'a [u8]) -> Result<Self, Refusal> {
         // SAFETY: the line is a slice.
@@ -154,7 +65,7 @@ impl<'a> Record<'a> {
         })
     }
 
-    /// The record of a line whose bounds were kept. Refusal 1: they are not the line's own.
+    /// The record of a line whose bounds were kept. Refusal: [`Columns`](Refusal::Columns), they are not the line's own.
     ///
     /// ```
     /// use gff3_lines::{Record, Refusal};
@@ -162,7 +73,7 @@ impl<'a> Record<'a> {
     /// let bounds = Record::new(b"a\tb\tc\t1\t2\t.\t.\t.\t.")?.bounds();
     ///
     /// assert!(Record::with_bounds(b"x\ty\tz\t3\t4\t.\t.\t.\t.", bounds).is_ok());
-    /// assert_eq!(Record::with_bounds(b"xy\tz\tw\t3\t4\t.\t.\t.\t.", bounds), Err(Refusal(1)));
+    /// assert_eq!(Record::with_bounds(b"xy\tz\tw\t3\t4\t.\t.\t.\t.", bounds), Err(Refusal::Columns));
     /// # Ok::<(), Refusal>(())
     /// ```
     pub fn with_bounds(line: &'a [u8], bounds: Bounds) -> Result<Self, Refusal> {
@@ -204,7 +115,7 @@ impl<'a> Record<'a> {
     /// # Ok::<(), gff3_lines::Refusal>(())
     /// ```
     pub fn column(&self, column: Column) -> &'a [u8] {
-        // SAFETY: the line is a slice. The bounds are its own, so that 1 is not given.
+        // SAFETY: the line is a slice. The bounds are its own, so that it is not refused.
         let place = unsafe { ffi::gff3_column(self.line.as_ptr(), self.line.len(), self.bounds, column as u32) };
         &self.line[place.start..place.end]
     }
@@ -218,7 +129,22 @@ impl<'a> Record<'a> {
     /// # Ok::<(), gff3_lines::Refusal>(())
     /// ```
     pub fn reference_sequence_name(&self) -> Vec<u8> {
-        self.text(Column::ReferenceSequenceName)
+        let mut out = Vec::new();
+        self.reference_sequence_name_into(&mut out);
+        out
+    }
+
+    /// [`reference_sequence_name`](Self::reference_sequence_name), appended to a buffer.
+    ///
+    /// ```
+    /// let mut out = Vec::new();
+    /// gff3_lines::Record::new(b"%61\t%62\t%63\t1\t2\t.\t.\t.\t.")?.reference_sequence_name_into(&mut out);
+    ///
+    /// assert_eq!(out, b"a");
+    /// # Ok::<(), gff3_lines::Refusal>(())
+    /// ```
+    pub fn reference_sequence_name_into(&self, out: &mut Vec<u8>) {
+        self.text_into(Column::ReferenceSequenceName, out);
     }
 
     /// Column 2, decoded. A dot is plain text.
@@ -228,7 +154,22 @@ impl<'a> Record<'a> {
     /// # Ok::<(), gff3_lines::Refusal>(())
     /// ```
     pub fn source(&self) -> Vec<u8> {
-        self.text(Column::Source)
+        let mut out = Vec::new();
+        self.source_into(&mut out);
+        out
+    }
+
+    /// [`source`](Self::source), appended to a buffer.
+    ///
+    /// ```
+    /// let mut out = Vec::new();
+    /// gff3_lines::Record::new(b"%61\t%62\t%63\t1\t2\t.\t.\t.\t.")?.source_into(&mut out);
+    ///
+    /// assert_eq!(out, b"b");
+    /// # Ok::<(), gff3_lines::Refusal>(())
+    /// ```
+    pub fn source_into(&self, out: &mut Vec<u8>) {
+        self.text_into(Column::Source, out);
     }
 
     /// Column 3, decoded.
@@ -238,31 +179,47 @@ impl<'a> Record<'a> {
     /// # Ok::<(), gff3_lines::Refusal>(())
     /// ```
     pub fn ty(&self) -> Vec<u8> {
-        self.text(Column::Type)
+        let mut out = Vec::new();
+        self.ty_into(&mut out);
+        out
     }
 
-    fn text(&self, column: Column) -> Vec<u8> {
-        // SAFETY: the line is a slice, and the buffer another. The bounds are the line's own, so that 1 is not given.
-        filled(|out| unsafe {
+    /// [`ty`](Self::ty), appended to a buffer.
+    ///
+    /// ```
+    /// let mut out = Vec::new();
+    /// gff3_lines::Record::new(b"%61\t%62\t%63\t1\t2\t.\t.\t.\t.")?.ty_into(&mut out);
+    ///
+    /// assert_eq!(out, b"c");
+    /// # Ok::<(), gff3_lines::Refusal>(())
+    /// ```
+    pub fn ty_into(&self, out: &mut Vec<u8>) {
+        self.text_into(Column::Type, out);
+    }
+
+    /// One of columns 1 to 3, decoded, which is no longer than the three of them.
+    fn text_into(&self, column: Column, out: &mut Vec<u8>) {
+        // SAFETY: the line is a slice, and the buffer another.
+        let text = append(out, self.bounds.type_end, |out| unsafe {
             ffi::gff3_text(
                 self.line.as_ptr(),
                 self.line.len(),
                 self.bounds,
                 column as u32,
-                out.as_mut_ptr(),
+                out.as_mut_ptr().cast(),
                 out.len(),
             )
-        })
-        .unwrap_or_default()
+        });
+        debug_assert_eq!(text, Ok(()), "the bounds are the line's own");
     }
 
-    /// Column 4, from 1 on. Refusal 2: not a position.
+    /// Column 4, from 1 on. Refusal: [`Position`](Refusal::Position).
     ///
     /// ```
     /// use gff3_lines::{Record, Refusal};
     ///
     /// assert_eq!(Record::new(b"a\tb\tc\t008\t2\t.\t.\t.\t.")?.start(), Ok(8));
-    /// assert_eq!(Record::new(b"a\tb\tc\t0\t2\t.\t.\t.\t.")?.start(), Err(Refusal(2)));
+    /// assert_eq!(Record::new(b"a\tb\tc\t0\t2\t.\t.\t.\t.")?.start(), Err(Refusal::Position));
     /// # Ok::<(), Refusal>(())
     /// ```
     pub fn start(&self) -> Result<u64, Refusal> {
@@ -281,14 +238,14 @@ impl<'a> Record<'a> {
         number(unsafe { ffi::gff3_end(self.line.as_ptr(), self.line.len(), self.bounds) })
     }
 
-    /// Column 6: the token as it stands, and `None` for a dot. Refusal 17: not a score.
+    /// Column 6: the token as it stands, and `None` for a dot. Refusal: [`Score`](Refusal::Score).
     ///
     /// ```
     /// use gff3_lines::{Record, Refusal};
     ///
     /// assert_eq!(Record::new(b"a\tb\tc\t1\t2\t-1.5e3\t.\t.\t.")?.score(), Ok(Some(&b"-1.5e3"[..])));
     /// assert_eq!(Record::new(b"a\tb\tc\t1\t2\t.\t.\t.\t.")?.score(), Ok(None));
-    /// assert_eq!(Record::new(b"a\tb\tc\t1\t2\t\t.\t.\t.")?.score(), Err(Refusal(17)));
+    /// assert_eq!(Record::new(b"a\tb\tc\t1\t2\t\t.\t.\t.")?.score(), Err(Refusal::Score));
     /// # Ok::<(), Refusal>(())
     /// ```
     pub fn score(&self) -> Result<Option<&'a [u8]>, Refusal> {
@@ -298,12 +255,12 @@ impl<'a> Record<'a> {
         Ok((score.missing == 0).then(|| &self.line[score.start..score.end]))
     }
 
-    /// Column 7. Refusal 3: not a strand.
+    /// Column 7. Refusal: [`Strand`](Refusal::Strand).
     ///
     /// ```
     /// use gff3_lines::{Record, Refusal};
     ///
-    /// assert_eq!(Record::new(b"a\tb\tc\t1\t2\t.\t++\t.\t.")?.strand(), Err(Refusal(3)));
+    /// assert_eq!(Record::new(b"a\tb\tc\t1\t2\t.\t++\t.\t.")?.strand(), Err(Refusal::Strand));
     /// # Ok::<(), Refusal>(())
     /// ```
     pub fn strand(&self) -> Result<Strand, Refusal> {
@@ -312,13 +269,13 @@ impl<'a> Record<'a> {
         Ok(Strand::of(number(strand)?))
     }
 
-    /// Column 8, and `None` for a dot. Refusal 4: not a phase.
+    /// Column 8, and `None` for a dot. Refusal: [`Phase`](Refusal::Phase).
     ///
     /// ```
     /// use gff3_lines::{Record, Refusal};
     ///
     /// assert_eq!(Record::new(b"a\tb\tc\t1\t2\t.\t.\t.\t.")?.phase(), Ok(None));
-    /// assert_eq!(Record::new(b"a\tb\tc\t1\t2\t.\t.\t3\t.")?.phase(), Err(Refusal(4)));
+    /// assert_eq!(Record::new(b"a\tb\tc\t1\t2\t.\t.\t3\t.")?.phase(), Err(Refusal::Phase));
     /// # Ok::<(), Refusal>(())
     /// ```
     pub fn phase(&self) -> Result<Option<Phase>, Refusal> {

@@ -1,6 +1,10 @@
 //! A record taken apart, and written again.
 
-use crate::{Phase, Refusal, Strand, coding::filled, ffi};
+use crate::{
+    Phase, Refusal, Strand,
+    buffer::{append, made},
+    ffi,
+};
 
 /// The field sheet of a record: its fields, which own their texts, decoded.
 ///
@@ -38,21 +42,23 @@ pub struct Sheet {
 }
 
 impl Sheet {
-    /// The fields of a line without its line feed, taken as a record without a look at its kind. Refusals, in order: 24, it has over
-    /// 4,194,304 bytes; 1, fewer than eight tabs; 2, not a position; 17, not a score; 3, not a strand; 4, not a phase; 5, attribute text
-    /// is left without `=`.
+    /// The fields of a line without its line feed, taken as a record without a look at its kind.
+    ///
+    /// Refusals, in order:
+    /// - [`TooLong`](Refusal::TooLong): the line has over 4,194,304 bytes;
+    /// - [`Columns`](Refusal::Columns): it has fewer than eight tabs;
+    /// - [`Position`](Refusal::Position): the start or the end is no position;
+    /// - [`Score`](Refusal::Score), [`Strand`](Refusal::Strand), [`Phase`](Refusal::Phase): not one of these;
+    /// - [`Attribute`](Refusal::Attribute): text is left in column 9 without `=`.
     ///
     /// ```
     /// use gff3_lines::{Sheet, Refusal};
     ///
-    /// assert_eq!(Sheet::of_line(b"sq0"), Err(Refusal(1)));
-    /// assert_eq!(Sheet::of_line(b"sq0\t\t\t0\t\t\t\t\t"), Err(Refusal(2)));
+    /// assert_eq!(Sheet::of_line(b"sq0"), Err(Refusal::Columns));
+    /// assert_eq!(Sheet::of_line(b"sq0\t\t\t0\t\t\t\t\t"), Err(Refusal::Position));
     /// ```
     pub fn of_line(line: &[u8]) -> Result<Self, Refusal> {
-        let mut sheet = vec![0; judge(line)?.length];
-        // SAFETY: the line is a slice, and the buffer another.
-        let unfolded = unsafe { ffi::gff3_unfold(line.as_ptr(), line.len(), sheet.as_mut_ptr(), sheet.len()) };
-        Refusal::check(unfolded.refused)?;
+        let (sheet, unfolded) = unfold(line)?;
         let rest = &mut &sheet[..];
         let [reference_sequence_name, source, ty, score] = std::array::from_fn(|_| take_text(rest));
         let attributes = (0..take_count(rest))
@@ -76,8 +82,14 @@ impl Sheet {
         })
     }
 
-    /// The line of the fields, without a line feed. Refusals, in order: 24, the fields come to over 1,048,576 bytes; 23, an attribute has
-    /// no value; 2, a position of zero; 17, not a score; 18, the type is `CDS`, and there is no phase.
+    /// The line of the fields, without a line feed.
+    ///
+    /// Refusals, in order:
+    /// - [`TooLong`](Refusal::TooLong): the fields come to over 1,048,576 bytes, with four for each text and each count;
+    /// - [`Sheet`](Refusal::Sheet): an attribute has no value;
+    /// - [`Position`](Refusal::Position): the start or the end is zero;
+    /// - [`Score`](Refusal::Score): not a score;
+    /// - [`PhaseMissing`](Refusal::PhaseMissing): the type is `CDS`, and there is no phase.
     ///
     /// ```
     /// use gff3_lines::{Sheet, Refusal};
@@ -85,14 +97,30 @@ impl Sheet {
     /// let mut sheet = Sheet::of_line(b"sq0\tlab\tgene\t8\t13\t.\t+\t.\tID=a")?;
     /// sheet.ty = b"CDS".to_vec();
     ///
-    /// assert_eq!(sheet.line(), Err(Refusal(18)));
+    /// assert_eq!(sheet.line(), Err(Refusal::PhaseMissing));
     /// # Ok::<(), Refusal>(())
     /// ```
     pub fn line(&self) -> Result<Vec<u8>, Refusal> {
+        made(|out| self.line_into(out))
+    }
+
+    /// [`line`](Self::line), appended to a buffer.
+    ///
+    /// ```
+    /// let line = b"sq0\tlab\tgene\t8\t13\t.\t+\t.\tID=a";
+    /// let mut out = b"##gff-version 3\n".to_vec();
+    /// gff3_lines::Sheet::of_line(line)?.line_into(&mut out)?;
+    ///
+    /// assert_eq!(out, b"##gff-version 3\nsq0\tlab\tgene\t8\t13\t.\t+\t.\tID=a");
+    /// # Ok::<(), gff3_lines::Refusal>(())
+    /// ```
+    pub fn line_into(&self, out: &mut Vec<u8>) -> Result<(), Refusal> {
         let sheet = self.bytes();
         let phase = self.phase.map_or(3, |phase| phase as u32);
+        // The line is seldom longer than the sheet and its numbers.
+        let guess = sheet.len() + 64;
         // SAFETY: the sheet is a slice, and the buffer another.
-        filled(|out| unsafe {
+        append(out, guess, |out| unsafe {
             ffi::gff3_write_record(
                 sheet.as_ptr(),
                 sheet.len(),
@@ -100,7 +128,7 @@ impl Sheet {
                 self.end,
                 self.strand as u32,
                 phase,
-                out.as_mut_ptr(),
+                out.as_mut_ptr().cast(),
                 out.len(),
             )
         })
@@ -153,7 +181,7 @@ pub struct Judged {
 /// ```
 /// use gff3_lines::{Refusal, judge};
 ///
-/// assert_eq!(judge(b"sq0\tlab\tgene\t8\t13\t.\t+\t.\tID"), Err(Refusal(5)));
+/// assert_eq!(judge(b"sq0\tlab\tgene\t8\t13\t.\t+\t.\tID"), Err(Refusal::Attribute));
 /// ```
 pub fn judge(line: &[u8]) -> Result<Judged, Refusal> {
     // SAFETY: the line is a slice.
@@ -168,6 +196,22 @@ pub fn judge(line: &[u8]) -> Result<Judged, Refusal> {
     })
 }
 
+/// The bytes of a line's sheet, and the numbers beside them.
+fn unfold(line: &[u8]) -> Result<(Vec<u8>, ffi::Unfolded), Refusal> {
+    let mut sheet = Vec::new();
+    let mut unfolded = ffi::Unfolded::default();
+    // The counts of a short attribute are longer than it is, but three times the line is seldom passed.
+    append(&mut sheet, line.len().saturating_mul(3), |out| {
+        // SAFETY: the line is a slice, and the buffer another.
+        unfolded = unsafe { ffi::gff3_unfold(line.as_ptr(), line.len(), out.as_mut_ptr().cast(), out.len()) };
+        ffi::Written {
+            refused: unfolded.refused,
+            length: unfolded.length,
+        }
+    })?;
+    Ok((sheet, unfolded))
+}
+
 /// A count of four bytes. Where the count is greater, the sheet is too long to be written.
 fn put_count(sheet: &mut Vec<u8>, n: usize) {
     sheet.extend((n as u32).to_le_bytes());
@@ -180,13 +224,19 @@ fn put_text(sheet: &mut Vec<u8>, text: &[u8]) {
 
 /// The next count of a sheet that the library laid.
 fn take_count(rest: &mut &[u8]) -> usize {
-    rest.split_off(..4)
-        .and_then(|count| count.try_into().ok())
-        .map_or(0, |count| u32::from_le_bytes(count) as usize)
+    let count = take(rest, 4).try_into().unwrap_or_default();
+    u32::from_le_bytes(count) as usize
 }
 
 /// The next text of a sheet that the library laid.
 fn take_text(rest: &mut &[u8]) -> Vec<u8> {
     let n = take_count(rest);
-    rest.split_off(..n).unwrap_or_default().to_vec()
+    take(rest, n).to_vec()
+}
+
+/// The next `n` bytes.
+fn take<'a>(rest: &mut &'a [u8], n: usize) -> &'a [u8] {
+    let (taken, left) = rest.split_at(n);
+    *rest = left;
+    taken
 }

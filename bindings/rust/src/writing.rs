@@ -1,6 +1,10 @@
 //! Comments and directives written.
 
-use crate::{Build, Refusal, Region, Version, coding::filled, ffi};
+use crate::{
+    Build, Refusal, Region, Version,
+    buffer::{append, made},
+    ffi,
+};
 
 /// The value of a directive to write.
 ///
@@ -28,9 +32,13 @@ pub enum Value<'a> {
 
 /// The line of a directive, without a line feed: `##`, the key, and a space and the value where there is one.
 ///
-/// Refusals, in order: 24, a text has over 1,048,576 bytes; 21, a version, region or build under another key than its own; 19, the key
-/// holds ASCII white space; 20, the text holds CR or LF, or a name or source is empty or holds ASCII white space; 9, a patch without a
-/// minor; 2, a position of zero.
+/// Refusals, in order:
+/// - [`TooLong`](Refusal::TooLong): a text has over 1,048,576 bytes;
+/// - [`ValueKey`](Refusal::ValueKey): a version, region or build under another key than its own;
+/// - [`Key`](Refusal::Key): the key holds ASCII white space;
+/// - [`Text`](Refusal::Text): the text holds CR or LF, or a name or source is empty or holds ASCII white space;
+/// - [`Patch`](Refusal::Patch): a patch without a minor;
+/// - [`Position`](Refusal::Position): a position of zero.
 ///
 /// ```
 /// use gff3_lines::{Refusal, Value, Version, write_directive};
@@ -39,14 +47,30 @@ pub enum Value<'a> {
 ///
 /// assert_eq!(write_directive(b"gff-version", version)?, b"##gff-version 3.1");
 /// assert_eq!(write_directive(b"FASTA", Value::None)?, b"##FASTA");
-/// assert_eq!(write_directive(b"species", version), Err(Refusal(21)));
-/// assert_eq!(write_directive(b"a b", Value::Text(b"c")), Err(Refusal(19)));
+/// assert_eq!(write_directive(b"species", version), Err(Refusal::ValueKey));
+/// assert_eq!(write_directive(b"a b", Value::Text(b"c")), Err(Refusal::Key));
 /// # Ok::<(), Refusal>(())
 /// ```
-pub fn write_directive(key: &[u8], value: Value) -> Result<Vec<u8>, Refusal> {
+pub fn write_directive(key: &[u8], value: Value<'_>) -> Result<Vec<u8>, Refusal> {
+    made(|out| write_directive_into(key, value, out))
+}
+
+/// [`write_directive`], appended to a buffer.
+///
+/// ```
+/// let mut out = Vec::new();
+/// gff3_lines::write_directive_into(b"FASTA", gff3_lines::Value::None, &mut out)?;
+/// out.push(b'\n');
+///
+/// assert_eq!(out, b"##FASTA\n");
+/// # Ok::<(), gff3_lines::Refusal>(())
+/// ```
+pub fn write_directive_into(key: &[u8], value: Value<'_>, out: &mut Vec<u8>) -> Result<(), Refusal> {
+    let (value, first, second) = parts(value);
+    // Beside the texts there are at most two numbers of twenty digits and five other bytes.
+    let guess = key.len() + first.len() + second.len() + 45;
     // SAFETY: the texts are slices, and the buffer another.
-    filled(|out| unsafe {
-        let (value, first, second) = parts(value);
+    append(out, guess, |out| unsafe {
         ffi::gff3_write_directive(
             key.as_ptr(),
             key.len(),
@@ -55,7 +79,7 @@ pub fn write_directive(key: &[u8], value: Value) -> Result<Vec<u8>, Refusal> {
             first.len(),
             second.as_ptr(),
             second.len(),
-            out.as_mut_ptr(),
+            out.as_mut_ptr().cast(),
             out.len(),
         )
     })
@@ -94,17 +118,32 @@ fn parts(value: Value<'_>) -> (ffi::DirectiveValue, &[u8], &[u8]) {
     }
 }
 
-/// The line of a comment, without a line feed: `#` and the text. Refusals, in order: 24, the text has over 1,048,576 bytes; 20, it holds CR
-/// or LF, or begins with `#`, which would make it a directive.
+/// The line of a comment, without a line feed: `#` and the text. Refusals, in order: [`TooLong`](Refusal::TooLong), the text has over
+/// 1,048,576 bytes; [`Text`](Refusal::Text), it holds CR or LF, or begins with `#`, which would make it a directive.
 ///
 /// ```
 /// use gff3_lines::{Refusal, write_comment};
 ///
 /// assert_eq!(write_comment(b" two exons")?, b"# two exons");
-/// assert_eq!(write_comment(b"#"), Err(Refusal(20)));
+/// assert_eq!(write_comment(b"#"), Err(Refusal::Text));
 /// # Ok::<(), Refusal>(())
 /// ```
 pub fn write_comment(text: &[u8]) -> Result<Vec<u8>, Refusal> {
+    made(|out| write_comment_into(text, out))
+}
+
+/// [`write_comment`], appended to a buffer.
+///
+/// ```
+/// let mut out = b"##gff-version 3\n".to_vec();
+/// gff3_lines::write_comment_into(b" two exons", &mut out)?;
+///
+/// assert_eq!(out, b"##gff-version 3\n# two exons");
+/// # Ok::<(), gff3_lines::Refusal>(())
+/// ```
+pub fn write_comment_into(text: &[u8], out: &mut Vec<u8>) -> Result<(), Refusal> {
     // SAFETY: the text is a slice, and the buffer another.
-    filled(|out| unsafe { ffi::gff3_write_comment(text.as_ptr(), text.len(), out.as_mut_ptr(), out.len()) })
+    append(out, text.len() + 1, |out| unsafe {
+        ffi::gff3_write_comment(text.as_ptr(), text.len(), out.as_mut_ptr().cast(), out.len())
+    })
 }

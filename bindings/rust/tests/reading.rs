@@ -2,7 +2,7 @@
 
 use gff3_lines::{
     Attributes, Bounds, Build, Column, Directive, Kind, Line, Lines, Phase, Record, Refusal, Region, Set, Strand,
-    Values, Version, decode, encode, lines, position,
+    Values, Version, decode, encode, lines,
 };
 
 fn bytes<'a>(lines: Lines<'a>) -> Vec<&'a [u8]> {
@@ -22,6 +22,24 @@ fn lines_end_at_line_feeds() {
     assert_eq!(bytes(lines(b"a\r\r\n")), [b"a\r"]);
     assert_eq!(bytes(Lines::starting_at(b"\r\n", 1)), [b""]);
     assert_eq!(bytes(Lines::starting_at(b"\r\n", usize::MAX)), [] as [&[u8]; 0]);
+}
+
+#[test]
+fn a_walk_that_is_done_stays_done() {
+    let mut lines = Lines::starting_at(b"a\nb", usize::MAX);
+    assert_eq!((lines.next(), lines.at()), (None, 3));
+    assert_eq!((lines.next(), lines.at()), (None, 3));
+
+    for column in [&b"a=1"[..], b"a=1;", b"."] {
+        let mut fields = Attributes(column).fields();
+        fields.by_ref().for_each(drop);
+        assert_eq!((fields.next(), fields.next()), (None, None));
+    }
+    for value in [&b""[..], b"a", b"a,"] {
+        let mut values = Values::new(value);
+        values.by_ref().for_each(drop);
+        assert_eq!((values.next(), values.next()), (None, None));
+    }
 }
 
 #[test]
@@ -59,20 +77,8 @@ fn a_record_has_nine_columns() {
     assert_eq!(record.phase(), Ok(Some(Phase::Two)));
     assert_eq!(record.attributes(), Attributes(b"ID=a\tb"));
 
-    let columns = [
-        (Column::ReferenceSequenceName, "sq%200"),
-        (Column::Source, "l%61b"),
-        (Column::Type, "CDS"),
-        (Column::Start, "8"),
-        (Column::End, "13"),
-        (Column::Score, "-1.5e3"),
-        (Column::Strand, "-"),
-        (Column::Phase, "2"),
-        (Column::Attributes, "ID=a\tb"),
-    ];
-    for (column, text) in columns {
-        assert_eq!(record.column(column), text.as_bytes());
-    }
+    let columns = Column::ALL.map(|column| record.column(column));
+    assert_eq!(columns.join(&b'\t'), line.as_bytes());
 }
 
 #[test]
@@ -82,10 +88,10 @@ fn a_record_of_no_bytes_has_nine_empty_columns() {
     assert_eq!(record.reference_sequence_name(), b"");
     assert_eq!(record.column(Column::Attributes), b"");
     assert!(record.attributes().is_empty());
-    assert_eq!(record.start(), Err(Refusal(2)));
-    assert_eq!(record.score(), Err(Refusal(17)));
-    assert_eq!(record.strand(), Err(Refusal(3)));
-    assert_eq!(record.phase(), Err(Refusal(4)));
+    assert_eq!(record.start(), Err(Refusal::Position));
+    assert_eq!(record.score(), Err(Refusal::Score));
+    assert_eq!(record.strand(), Err(Refusal::Strand));
+    assert_eq!(record.phase(), Err(Refusal::Phase));
 }
 
 #[test]
@@ -133,7 +139,7 @@ fn bounds_of_another_line_are_refused() {
         shift(&mut bounds);
         assert_eq!(
             Record::with_bounds(b"a\tb\tc\td\te\tf\tg\th\ti", bounds),
-            Err(Refusal(1))
+            Err(Refusal::Columns)
         );
     }
 }
@@ -149,7 +155,7 @@ fn a_walk_cuts_at_equals_signs_first() {
 
     assert_eq!(tags(b"a=1;b;c=2"), [Ok((&b"a"[..], &b"1"[..])), Ok((b"b;c", b"2"))]);
     assert_eq!(tags(b"a=1;"), [Ok((&b"a"[..], &b"1"[..]))]);
-    assert_eq!(tags(b"a=1;;"), [Ok((&b"a"[..], &b"1"[..])), Err(Refusal(5))]);
+    assert_eq!(tags(b"a=1;;"), [Ok((&b"a"[..], &b"1"[..])), Err(Refusal::Attribute)]);
     assert_eq!(tags(b"="), [Ok((&b""[..], &b""[..]))]);
     assert_eq!(tags(b"."), []);
     assert_eq!(tags(b""), []);
@@ -183,8 +189,8 @@ fn typed_values_are_read_from_left_to_right() {
             patch: Some(26)
         })
     );
-    assert_eq!(Version::parse(b""), Err(Refusal(6)));
-    assert_eq!(Version::parse(b"x.y"), Err(Refusal(7)));
+    assert_eq!(Version::parse(b""), Err(Refusal::Empty));
+    assert_eq!(Version::parse(b"x.y"), Err(Refusal::Major));
 
     assert_eq!(
         Region::parse(b" sq0\t+8 9 10"),
@@ -195,15 +201,16 @@ fn typed_values_are_read_from_left_to_right() {
         })
     );
     let refused = [
-        (&b""[..], 6),
-        (b" ", 10),
-        (b"sq0", 11),
-        (b"sq0 x", 12),
-        (b"sq0 8", 13),
-        (b"sq0 8 -9", 14),
+        (&b""[..], Refusal::Empty),
+        (b"\t", Refusal::RegionNameMissing),
+        (b"sq0", Refusal::RegionStartMissing),
+        (b"sq0 x", Refusal::RegionStart),
+        (b"sq0 x x", Refusal::RegionStart),
+        (b"sq0 1 ", Refusal::RegionEndMissing),
+        (b"sq0 8 -9", Refusal::RegionEnd),
     ];
-    for (text, number) in refused {
-        assert_eq!(Region::parse(text), Err(Refusal(number)));
+    for (text, refusal) in refused {
+        assert_eq!(Region::parse(text), Err(refusal));
     }
 
     assert_eq!(
@@ -213,7 +220,7 @@ fn typed_values_are_read_from_left_to_right() {
             name: b"b"
         })
     );
-    assert_eq!(Build::parse(b""), Err(Refusal(6)));
+    assert_eq!(Build::parse(b""), Err(Refusal::Empty));
 }
 
 #[test]
@@ -226,13 +233,4 @@ fn what_is_encoded_decodes_to_itself() {
     assert_eq!(encode(Set::Column, &[0; 1_048_576]).unwrap().len(), 3 * 1_048_576);
     assert_eq!(decode(b"%4"), b"%4");
     assert_eq!(decode(b"%%41"), b"%A");
-}
-
-#[test]
-fn a_refusal_says_its_reason() {
-    let refusal = position(b"-8").unwrap_err();
-
-    assert_eq!(refusal, Refusal(2));
-    assert_eq!(refusal.to_string(), "not a position (refusal 2)");
-    assert_eq!(Refusal(99).to_string(), "refused (refusal 99)");
 }

@@ -49,20 +49,20 @@ fn a_line_is_taken_apart() {
 #[test]
 fn lines_are_refused_from_left_to_right() {
     let refused = [
-        (&b"a"[..], 1),
-        (b"\t\t\tx\ty\tz\t*\t*\ta", 2),
-        (b"\t\t\t1\t0\tz\t*\t*\ta", 2),
-        (b"\t\t\t1\t1\tz\t*\t*\ta", 17),
-        (b"\t\t\t1\t1\t.\t*\t*\ta", 3),
-        (b"\t\t\t1\t1\t.\t.\t*\ta", 4),
-        (b"\t\t\t1\t1\t.\t.\t.\ta", 5),
+        (&b"a"[..], Refusal::Columns),
+        (b"\t\t\tx\ty\tz\t*\t*\ta", Refusal::Position),
+        (b"\t\t\t1\t0\tz\t*\t*\ta", Refusal::Position),
+        (b"\t\t\t1\t1\tz\t*\t*\ta", Refusal::Score),
+        (b"\t\t\t1\t1\t.\t*\t*\ta", Refusal::Strand),
+        (b"\t\t\t1\t1\t.\t.\t*\ta", Refusal::Phase),
+        (b"\t\t\t1\t1\t.\t.\t.\ta", Refusal::Attribute),
     ];
-    for (line, number) in refused {
-        assert_eq!(judge(line), Err(Refusal(number)));
-        assert_eq!(Sheet::of_line(line), Err(Refusal(number)));
+    for (line, refusal) in refused {
+        assert_eq!(judge(line), Err(refusal));
+        assert_eq!(Sheet::of_line(line), Err(refusal));
     }
-    assert_eq!(judge(&[b'\t'; 4_194_305]), Err(Refusal(24)));
-    assert_eq!(judge(&[b'\t'; 4_194_304]), Err(Refusal(2)));
+    assert_eq!(judge(&[b'\t'; 4_194_305]), Err(Refusal::TooLong));
+    assert_eq!(judge(&[b'\t'; 4_194_304]), Err(Refusal::Position));
 }
 
 #[test]
@@ -117,11 +117,14 @@ fn sheets_are_refused() {
         sheet.line()
     };
 
-    assert_eq!(refused(|sheet| sheet.source = vec![b'a'; 1_048_576]), Err(Refusal(24)));
-    assert_eq!(refused(|sheet| sheet.attributes[0].1.clear()), Err(Refusal(23)));
-    assert_eq!(refused(|sheet| sheet.start = 0), Err(Refusal(2)));
-    assert_eq!(refused(|sheet| sheet.score = Some(b"1.".to_vec())), Err(Refusal(17)));
-    assert_eq!(refused(|sheet| sheet.phase = None), Err(Refusal(18)));
+    assert_eq!(
+        refused(|sheet| sheet.source = vec![b'a'; 1_048_576]),
+        Err(Refusal::TooLong)
+    );
+    assert_eq!(refused(|sheet| sheet.attributes[0].1.clear()), Err(Refusal::Sheet));
+    assert_eq!(refused(|sheet| sheet.start = 0), Err(Refusal::Position));
+    assert_eq!(refused(|sheet| sheet.score = Some(b"1.".to_vec())), Err(Refusal::Score));
+    assert_eq!(refused(|sheet| sheet.phase = None), Err(Refusal::PhaseMissing));
 }
 
 #[test]
@@ -129,32 +132,32 @@ fn directives_are_written() {
     let version = |minor, patch| Value::Version(Version { major: 3, minor, patch });
     let region = |name, start| Value::Region(Region { name, start, end: 13 });
     let build = |source, name| Value::Build(Build { source, name });
-    type Case<'a> = (&'a [u8], Value<'a>, Result<&'a [u8], u32>);
+    type Case<'a> = (&'a [u8], Value<'a>, Result<&'a [u8], Refusal>);
     let cases: [Case; 16] = [
         (b"", Value::None, Ok(b"##")),
         (b"", Value::Text(b""), Ok(b"## ")),
         (b"gff-version", Value::Text(b"x"), Ok(b"##gff-version x")),
-        (b"a b", Value::None, Err(19)),
-        (b"a", Value::Text(b"\r"), Err(20)),
+        (b"a b", Value::None, Err(Refusal::Key)),
+        (b"a", Value::Text(b"\r"), Err(Refusal::Text)),
         (b"gff-version", version(None, None), Ok(b"##gff-version 3")),
         (b"gff-version", version(Some(1), Some(26)), Ok(b"##gff-version 3.1.26")),
-        (b"gff-version", version(None, Some(26)), Err(9)),
-        (b"a b", version(None, Some(26)), Err(21)),
+        (b"gff-version", version(None, Some(26)), Err(Refusal::Patch)),
+        (b"a b", version(None, Some(26)), Err(Refusal::ValueKey)),
         (b"sequence-region", region(b"sq0", 8), Ok(b"##sequence-region sq0 8 13")),
-        (b"sequence-region", region(b"", 0), Err(20)),
-        (b"sequence-region", region(b"sq0", 0), Err(2)),
+        (b"sequence-region", region(b"", 0), Err(Refusal::Text)),
+        (b"sequence-region", region(b"sq0", 0), Err(Refusal::Position)),
         (b"genome-build", build(b"NCBI", b"B36"), Ok(b"##genome-build NCBI B36")),
-        (b"genome-build", build(b"NCBI", b"B 36"), Err(20)),
-        (b"genome-build", build(b"", b"B36"), Err(20)),
-        (b"genome-builds", build(b"NCBI", b"B36"), Err(21)),
+        (b"genome-build", build(b"NCBI", b"B 36"), Err(Refusal::Text)),
+        (b"genome-build", build(b"", b"B36"), Err(Refusal::Text)),
+        (b"genome-builds", build(b"NCBI", b"B36"), Err(Refusal::ValueKey)),
     ];
     for (key, value, expected) in cases {
-        assert_eq!(
-            write_directive(key, value),
-            expected.map(<[u8]>::to_vec).map_err(Refusal)
-        );
+        assert_eq!(write_directive(key, value), expected.map(<[u8]>::to_vec));
     }
-    assert_eq!(write_directive(b"a", Value::Text(&[b'a'; 1_048_577])), Err(Refusal(24)));
+    assert_eq!(
+        write_directive(b"a", Value::Text(&[b'a'; 1_048_577])),
+        Err(Refusal::TooLong)
+    );
 
     let line = write_directive(b"a", Value::Text(b" b")).unwrap();
     assert_eq!(
@@ -171,7 +174,7 @@ fn comments_are_written() {
     assert_eq!(write_comment(b"").unwrap(), b"#");
     assert_eq!(write_comment(b"!a\t").unwrap(), b"#!a\t");
     for text in [&b"#"[..], b"a\n", b"\r"] {
-        assert_eq!(write_comment(text), Err(Refusal(20)));
+        assert_eq!(write_comment(text), Err(Refusal::Text));
     }
-    assert_eq!(write_comment(&[b'a'; 1_048_577]), Err(Refusal(24)));
+    assert_eq!(write_comment(&[b'a'; 1_048_577]), Err(Refusal::TooLong));
 }

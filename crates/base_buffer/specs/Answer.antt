@@ -1,4 +1,4 @@
--- What a function answers that writes a text into a lent buffer, and what it leaves there: document 01, "Refusal numbers".
+-- What a function answers that writes a text into a lent buffer, and what it leaves there: RULES 8.5, 10.
 -- Assumes nothing: these are definitions.
 use mathlib.Core.Path.{_≡_}
 use mathlib.Core.Bool.{Bool, cond}
@@ -32,7 +32,7 @@ unless refused (suc n) a = refused (suc n)
 
 -- ── answers ──
 
--- document 01's number of an answer: 0 where the text was written, 22 where it is longer than the buffer
+-- the refusal's number (RULES 10): 0 where the text was written, 22 where it is longer than the buffer
 unfoldable pub number : Written → ℕ
 number (Done n) = 0
 number (Refused n) = n

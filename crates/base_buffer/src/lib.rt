@@ -17,7 +17,7 @@ pub const MOST_LINE: usize = 4194304;
 pub enum Written {
     // The text stands at the buffer's start, and has so many bytes.
     Done(usize),
-    // Document 01's number of the reason.
+    // The number of the reason (RULES 10).
     Refused(u32),
     // Refusal 22: the text is longer than the buffer, and has so many bytes.
     NoRoom(usize),

@@ -1,4 +1,4 @@
--- How long a text may be that is read or written: document 01, "Refusal numbers", 24. Assumes nothing: these are definitions.
+-- How long a text may be that is read or written: RULES 12. Assumes nothing: these are definitions.
 use Prim.Native.Nat.{ℕ}
 
 -- a text or a sheet that is written

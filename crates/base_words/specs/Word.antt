@@ -1,5 +1,5 @@
--- White space and words, document 01, "Reading a line": ASCII white space is space, tab, LF, FF and CR, and a word is what stands
--- between white space. Assumes nothing: these are definitions.
+-- White space and words, RULES 2.4: ASCII white space is space, tab, LF, FF and CR, and a word is what stands between white space.
+-- Assumes nothing: these are definitions.
 use Prim.Native.Nat.{ℕ}
 use mathlib.Core.Bool.{Bool, not}
 use mathlib.Core.List.{List, [], _∷_}

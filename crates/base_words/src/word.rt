@@ -1,4 +1,4 @@
-// White space and words: document 01's ASCII white space is space, tab, LF, FF and CR.
+// White space and words (RULES 2.4): ASCII white space is space, tab, LF, FF and CR.
 use base_scan::Place;
 ghost use mathlib.Core.Path.{_≡_};
 ghost use Prim.Native.Nat.{_≤_};

@@ -1,7 +1,8 @@
--- Bounds, positions and the answers of writers as C has them, a case at a time. Assumes nothing: these are definitions.
-use Prim.Native.Nat.{ℕ}
+-- Cursors, bounds, positions and the answers of writers as C has them, a case at a time (RULES 16). Assumes nothing: these are definitions.
+use Prim.Native.Nat.{ℕ, min}
 use mathlib.Core.Path.{_≡_}
 use mathlib.Core.List.{List}
+use lib.ListN.{length}
 use Rattle.base_buffer.specs.declared.Written.{Written}
 use Rattle.base_buffer.specs.Answer.{Reason, number, needed, Wrote}
 use Rattle.read_tokens.specs.declared.position.PositionRead.{PositionRead}
@@ -11,6 +12,10 @@ use Rattle.read_columns.specs.declared.bounds.Bounds.{Bounds}
 use Rattle.c_answers.specs.declared.Gff3Bounds.{Gff3Bounds}
 use Rattle.c_answers.specs.declared.Gff3Number.{Gff3Number}
 use Rattle.c_answers.specs.declared.Gff3Written.{Gff3Written}
+
+-- a cursor as it counts: beyond the text it is at the end. A walk that is done or refused answers this one (RULES 16.2)
+abbrev pub clipped : List ℕ → ℕ → ℕ
+clipped s at = min at (length s)
 
 abbrev pub bounds-of-c : Gff3Bounds → Bounds
 bounds-of-c b =

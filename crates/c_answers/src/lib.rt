@@ -2,7 +2,7 @@
 //
 // These are turned into the library's own, or out of them.
 //
-// Proved: each answer is that of one definition for each type, which gives document 01's number and values for each case. Assumes nothing.
+// Proved: each answer is that of one definition for each type, which gives each case its number and value (RULES 10). Assumes nothing.
 use base_buffer::Written;
 use read_columns::Bounds;
 use read_tokens::PositionRead;

@@ -1,7 +1,8 @@
 // Gives C the walk over column 9, the values of an attribute, and an attribute by its tag.
 //
-// Proved: each struct is the library's definition of the answer, by one definition for each enum, which gives document 01's number and
-// values for each case. Every function takes any bytes and numbers. Assumes nothing.
+// Proved: each struct is the library's definition of the answer, by one definition for each enum, which gives each case its numbers and
+// places (RULES 10, 16); a cursor handed out is never beyond the text, and where a walk is done or refused another call with it answers
+// the same (proofs/CursorLaws.antt). Every function takes any bytes and numbers. Assumes nothing.
 use read_attributes::Step;
 use read_lookup::Found;
 use read_values::NextValue;
@@ -10,9 +11,7 @@ ghost use mathlib.Core.Path.{_≡_};
 ghost use Rattle.base_lists.specs.Bit.{bit};
 ghost use Rattle.read_attributes.specs.Attributes.{is-empty};
 ghost use Rattle.read_lookup.specs.Lookup.{find-tag};
-ghost use Rattle.read_attributes.specs.Step.{next-field};
-ghost use Rattle.read_values.specs.Step.{next-value};
-ghost use Rattle.c_attributes.specs.Attribute.{c-field, cursor-of-c, c-value, c-found};
+ghost use Rattle.c_attributes.specs.Attribute.{c-next-field, c-next-value, c-found};
 
 #[repr(C)]
 pub struct Gff3Field {
@@ -42,11 +41,12 @@ pub struct Gff3Found {
     pub end: usize,
 }
 
-// The attribute at a cursor. Refusal 5.
+// The attribute at a cursor, and the cursor behind it; where the walk is done or refused, the cursor stays. Refusal 5.
 #[no_mangle]
 pub extern "C" fn gff3_next_field(column: &[u8], at: usize) -> Gff3Field
-    ensures { λ r. ⌜ r ≡ c-field (next-field (now (column .entry)) at) ⌝ }
+    ensures { λ r. ⌜ r ≡ c-next-field (now (column .entry)) at ⌝ }
 {
+    let here = base_numbers::least(at, column.len());
     match read_attributes::next_field(column, at) {
         Step::Is(field) => {
             let tag = field.tag;
@@ -68,7 +68,7 @@ pub extern "C" fn gff3_next_field(column: &[u8], at: usize) -> Gff3Field
             tag_end: 0,
             value_start: 0,
             value_end: 0,
-            next: 0,
+            next: here,
         },
         Step::Refused => Gff3Field {
             refused: 5,
@@ -77,15 +77,16 @@ pub extern "C" fn gff3_next_field(column: &[u8], at: usize) -> Gff3Field
             tag_end: 0,
             value_start: 0,
             value_end: 0,
-            next: 0,
+            next: here,
         },
     }
 }
 
-// The next of the values of an attribute. The cursor is `at` and `out`; any number but 0 says that the last value is out.
+// The next of the values of an attribute. The cursor is `at` and `out`: any `out` but 0 says that the last value is out. The walk is done
+// then, and the cursor stays.
 #[no_mangle]
 pub extern "C" fn gff3_next_value(value: &[u8], at: usize, out: u64) -> Gff3Value
-    ensures { λ r. ⌜ r ≡ c-value (next-value (now (value .entry)) (cursor-of-c at out)) ⌝ }
+    ensures { λ r. ⌜ r ≡ c-next-value (now (value .entry)) at out ⌝ }
 {
     match read_values::next_value(value, ValueCursor { at, out: out != 0 }) {
         NextValue::Is(place, cursor) => Gff3Value {
@@ -99,8 +100,8 @@ pub extern "C" fn gff3_next_value(value: &[u8], at: usize, out: u64) -> Gff3Valu
             done: 1,
             start: 0,
             end: 0,
-            next: 0,
-            out: 0,
+            next: base_numbers::least(at, value.len()),
+            out: 1,
         },
     }
 }

@@ -1,7 +1,7 @@
 // Gives C percent coding, both ways, and the reader of a position.
 //
-// Proved: each struct is the library's definition of the answer, by one definition for each enum, which gives document 01's number and
-// values for each case. Every function takes any bytes and numbers. Assumes nothing.
+// Proved: each struct is the library's definition of the answer, by one definition for each enum, which gives each case its numbers and
+// places (RULES 10, 16). Every function takes any bytes and numbers. Assumes nothing.
 use c_answers::Gff3Number;
 use c_answers::Gff3Written;
 use percent_sets::Set;
@@ -22,14 +22,14 @@ pub extern "C" fn gff3_decode(text: &[u8], out: &mut [u8]) -> Gff3Written
     c_answers::written_of(percent_decode::decode(text, out))
 }
 
-// Sets by their numbers; another number counts as 3.
+// Sets by their numbers; another number counts as 1, whose set escapes most.
 fn set_of(set: u32) -> Set
     ensures { λ r. ⌜ r ≡ set-of-c set ⌝ }
 {
     match set {
-        1 => Set::Name,
         2 => Set::Column,
-        _ => Set::Attribute,
+        3 => Set::Attribute,
+        _ => Set::Name,
     }
 }
 

@@ -1,15 +1,16 @@
 // Gives C the columns of a record, raw: the bounds of a line, and where each column stands.
 //
-// Proved: each struct is the library's definition of the answer, by one definition for each enum, which gives document 01's number and
-// values for each case. Every function takes any bytes and numbers. Assumes nothing.
+// Proved: each struct is the library's definition of the answer, by one definition for each enum, which gives each case its numbers and
+// places (RULES 10, 16). Every function takes any bytes and numbers. Assumes nothing.
 use c_answers::Gff3Bounds;
+use read_columns::Bounds;
 use read_columns::Column;
 use read_columns::ColumnRead;
 use read_columns::Indexed;
 ghost use mathlib.Core.Path.{_≡_};
-ghost use Rattle.read_columns.specs.Columns.{indexed, column-at};
+ghost use Rattle.read_columns.specs.Columns.{indexed};
 ghost use Rattle.c_answers.specs.Answers.{bounds-of-c};
-ghost use Rattle.c_columns.specs.Columns.{column-of-c, c-indexed, c-place};
+ghost use Rattle.c_columns.specs.Columns.{column-of-c, c-column-at, c-indexed, c-place};
 
 #[repr(C)]
 pub struct Gff3Indexed {
@@ -22,6 +23,12 @@ pub struct Gff3Place {
     pub refused: u64,
     pub start: usize,
     pub end: usize,
+}
+
+// The column that C asks for by a number.
+enum ColumnOf {
+    Is(Column),
+    NotOne,
 }
 
 // The bounds of a line. Refusal 1: it has fewer than eight tabs.
@@ -59,29 +66,39 @@ pub extern "C" fn gff3_index(line: &[u8]) -> Gff3Indexed
     }
 }
 
-// Columns by their numbers; another number counts as 9.
-fn column_of(column: u32) -> Column
+// The column of a number, 1 to 9.
+fn column_of(column: u32) -> ColumnOf
     ensures { λ r. ⌜ r ≡ column-of-c column ⌝ }
 {
     match column {
-        1 => Column::ReferenceSequenceName,
-        2 => Column::Source,
-        3 => Column::Ty,
-        4 => Column::Start,
-        5 => Column::End,
-        6 => Column::Score,
-        7 => Column::Strand,
-        8 => Column::Phase,
-        _ => Column::Attributes,
+        1 => ColumnOf::Is(Column::ReferenceSequenceName),
+        2 => ColumnOf::Is(Column::Source),
+        3 => ColumnOf::Is(Column::Ty),
+        4 => ColumnOf::Is(Column::Start),
+        5 => ColumnOf::Is(Column::End),
+        6 => ColumnOf::Is(Column::Score),
+        7 => ColumnOf::Is(Column::Strand),
+        8 => ColumnOf::Is(Column::Phase),
+        9 => ColumnOf::Is(Column::Attributes),
+        _ => ColumnOf::NotOne,
     }
 }
 
-// A raw column as a place. Refusal 1.
+fn column_at(line: &[u8], bounds: Bounds, column: ColumnOf) -> ColumnRead
+    ensures { λ r. ⌜ r ≡ c-column-at column (now (line .entry)) bounds ⌝ }
+{
+    match column {
+        ColumnOf::Is(named) => read_columns::column_at(line, bounds, named),
+        ColumnOf::NotOne => ColumnRead::Refused,
+    }
+}
+
+// A raw column as a place. Refusal 1: the bounds are not the line's own, or the number is not one of 1 to 9.
 #[no_mangle]
 pub extern "C" fn gff3_column(line: &[u8], bounds: Gff3Bounds, column: u32) -> Gff3Place
-    ensures { λ r. ⌜ r ≡ c-place (column-at (column-of-c column) (now (line .entry)) (bounds-of-c bounds)) ⌝ }
+    ensures { λ r. ⌜ r ≡ c-place (c-column-at (column-of-c column) (now (line .entry)) (bounds-of-c bounds)) ⌝ }
 {
-    match read_columns::column_at(line, c_answers::bounds_in(bounds), column_of(column)) {
+    match column_at(line, c_answers::bounds_in(bounds), column_of(column)) {
         ColumnRead::At(place) => Gff3Place {
             refused: 0,
             start: place.start,

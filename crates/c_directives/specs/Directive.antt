@@ -1,4 +1,4 @@
--- The typed values of directives as C has them, a case at a time. Assumes nothing: these are definitions.
+-- The typed values of directives as C has them, a case at a time (RULES 16). Assumes nothing: these are definitions.
 use Prim.Native.Nat.{ℕ}
 use Rattle.read_version.specs.declared.Part.{Part}
 use Rattle.read_version.specs.declared.Part.the-variants as part

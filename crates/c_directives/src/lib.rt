@@ -1,7 +1,7 @@
 // Gives C the typed values of the directives `gff-version`, `sequence-region` and `genome-build`.
 //
-// Proved: each struct is the library's definition of the answer, by one definition for each enum, which gives document 01's number and
-// values for each case. Every function takes any bytes and numbers. Assumes nothing.
+// Proved: each struct is the library's definition of the answer, by one definition for each enum, which gives each case its numbers and
+// places (RULES 10, 16). Every function takes any bytes and numbers. Assumes nothing.
 use read_directives::BuildRead;
 use read_directives::RegionRead;
 use read_version::Part;

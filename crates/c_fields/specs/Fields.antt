@@ -1,27 +1,43 @@
--- The answers of the field readers as C has them, a case at a time. Assumes nothing: these are definitions.
+-- The answers of the field readers as C has them, a case at a time (RULES 16). Assumes nothing: these are definitions.
 use Prim.Native.Nat.{ℕ}
-use mathlib.Core.Bool.{cond}
+use mathlib.Core.Bool.{true, cond}
+use mathlib.Core.List.{List, [], _∷_}
+use mathlib.Core.Option.{Option, none, some}
 use lib.Dec.{eqb}
+use Rattle.base_buffer.specs.Answer.{Reason, _when_}
+use Rattle.percent_coding.specs.Percent.{decoded}
 use Rattle.read_tokens.specs.declared.strand.StrandRead.{StrandRead}
 use Rattle.read_tokens.specs.declared.strand.StrandRead.the-variants as strand-read
 use Rattle.read_tokens.specs.declared.phase.PhaseRead.{PhaseRead}
 use Rattle.read_tokens.specs.declared.phase.PhaseRead.the-variants as phase-read
 use Rattle.read_tokens.specs.Tokens.{strand-number, phase-number, strand-refusal, phase-refusal}
+use Rattle.read_columns.specs.declared.bounds.Bounds.{Bounds}
 use Rattle.read_columns.specs.declared.column.Column.{Column}
 use Rattle.read_columns.specs.declared.column.Column.the-variants as column
+use Rattle.read_columns.specs.Columns.{column-text}
 use Rattle.read_fields.specs.declared.score.ScoreRead.{ScoreRead}
 use Rattle.read_fields.specs.declared.score.ScoreRead.the-variants as score-read
-use Rattle.read_fields.specs.Fields.{score-refusal}
+use Rattle.read_fields.specs.Fields.{score-refusal, text-reasons}
 use Rattle.c_answers.specs.declared.Gff3Number.{Gff3Number}
 use Rattle.c_fields.specs.declared.Gff3ScoreText.{Gff3ScoreText}
 
 -- ── what C hands in ──
 
--- the column that is decoded: 1, 2, and 3 or another for the type
-abbrev pub text-column-of-c : ℕ → Column
-text-column-of-c n = cond (eqb n 1) column.ReferenceSequenceName (cond (eqb n 2) column.Source column.Ty)
+-- the column that is decoded, by its number, 1 to 3
+abbrev pub text-column-of-c : ℕ → Option Column
+text-column-of-c n =
+    cond (eqb n 1) (some column.ReferenceSequenceName) (cond (eqb n 2) (some column.Source) (cond (eqb n 3) (some column.Ty) none))
 
 -- ── what it gets ──
+
+-- the reasons to refuse, and the text: a number that is none of the three is refused by 1 (RULES 16.3), and has no text
+abbrev pub c-text-reasons : Option Column → List ℕ → Bounds → List Reason
+c-text-reasons none s b = (1 when true) ∷ []
+c-text-reasons (some c) s b = text-reasons s b
+
+abbrev pub c-text : Option Column → List ℕ → List ℕ
+c-text none s = []
+c-text (some c) s = decoded (column-text c s)
 
 abbrev pub c-score : ScoreRead → Gff3ScoreText
 c-score score-read.Missing = record { refused = score-refusal score-read.Missing; missing = 1; start = 0; end = 0 }

@@ -1,7 +1,7 @@
 // Gives C the fields of a record, columns 1 to 8 read.
 //
-// Proved: each struct is the library's definition of the answer, by one definition for each enum, which gives document 01's number and
-// values for each case. Every function takes any bytes and numbers. Assumes nothing.
+// Proved: each struct is the library's definition of the answer, by one definition for each enum, which gives each case its numbers and
+// places (RULES 10, 16). Every function takes any bytes and numbers. Assumes nothing.
 use base_buffer::Written;
 use c_answers::Gff3Bounds;
 use c_answers::Gff3Number;
@@ -12,12 +12,10 @@ use read_tokens::PhaseRead;
 use read_tokens::StrandRead;
 ghost use mathlib.Core.Path.{_≡_};
 ghost use Rattle.base_buffer.specs.Answer.{Wrote};
-ghost use Rattle.percent_coding.specs.Percent.{decoded};
 ghost use Rattle.read_columns.specs.declared.column.Column.the-variants.{Start, End};
-ghost use Rattle.read_columns.specs.Columns.{column-text};
-ghost use Rattle.read_fields.specs.Fields.{position-at, score-at, strand-at, phase-at, text-reasons};
+ghost use Rattle.read_fields.specs.Fields.{position-at, score-at, strand-at, phase-at};
 ghost use Rattle.c_answers.specs.Answers.{bounds-of-c, c-position, CWrote};
-ghost use Rattle.c_fields.specs.Fields.{text-column-of-c, c-score, c-strand, c-phase};
+ghost use Rattle.c_fields.specs.Fields.{text-column-of-c, c-text-reasons, c-text, c-score, c-strand, c-phase};
 
 #[repr(C)]
 pub struct Gff3ScoreText {
@@ -104,19 +102,20 @@ pub extern "C" fn gff3_phase(line: &[u8], bounds: Gff3Bounds) -> Gff3Number
     }
 }
 
-// Columns 1 to 3 by their numbers, decoded into a lent buffer; another number counts as 3.
+// Columns 1 to 3 by their numbers, decoded into a lent buffer.
 fn text(line: &[u8], bounds: Bounds, column: u32, out: &mut [u8]) -> Written
-    ensures { λ r. ⌜ Wrote (text-reasons (now (line .entry)) bounds)
-        (decoded (column-text (text-column-of-c column) (now (line .entry)))) (now (out .entry)) (now (out .exit)) r ⌝ }
+    ensures { λ r. ⌜ Wrote (c-text-reasons (text-column-of-c column) (now (line .entry)) bounds)
+        (c-text (text-column-of-c column) (now (line .entry))) (now (out .entry)) (now (out .exit)) r ⌝ }
 {
     match column {
         1 => read_fields::reference_sequence_name(line, bounds, out),
         2 => read_fields::source(line, bounds, out),
-        _ => read_fields::ty(line, bounds, out),
+        3 => read_fields::ty(line, bounds, out),
+        _ => Written::Refused(1),
     }
 }
 
-// Columns 1 to 3, decoded. Refusals 1, 22.
+// Columns 1 to 3, decoded. Refusals 1, also for a number that is none of the three, and 22.
 #[no_mangle]
 pub extern "C" fn gff3_text(
     line: &[u8],
@@ -124,8 +123,8 @@ pub extern "C" fn gff3_text(
     column: u32,
     out: &mut [u8],
 ) -> Gff3Written
-    ensures { λ r. ⌜ CWrote (text-reasons (now (line .entry)) (bounds-of-c bounds))
-        (decoded (column-text (text-column-of-c column) (now (line .entry)))) (now (out .entry)) (now (out .exit)) r ⌝ }
+    ensures { λ r. ⌜ CWrote (c-text-reasons (text-column-of-c column) (now (line .entry)) (bounds-of-c bounds))
+        (c-text (text-column-of-c column) (now (line .entry))) (now (out .entry)) (now (out .exit)) r ⌝ }
 {
     c_answers::written_of(text(line, c_answers::bounds_in(bounds), column, out))
 }

@@ -1,14 +1,17 @@
--- The answers on lines as C has them, a case at a time. Assumes nothing: these are definitions.
+-- The answers on lines as C has them, a case at a time (RULES 16). Assumes nothing: these are definitions.
 use Prim.Native.Nat.{ℕ}
+use mathlib.Core.List.{List}
 use Rattle.read_lines.specs.declared.Cursor.{Cursor}
 use Rattle.read_lines.specs.declared.Next.{Next}
 use Rattle.read_lines.specs.declared.Next.the-variants as next
+use Rattle.read_lines.specs.Step.{next-line}
 use Rattle.read_kind.specs.declared.comment.CommentText.{CommentText}
 use Rattle.read_kind.specs.declared.comment.CommentText.the-variants as comment
 use Rattle.read_kind.specs.declared.directive.DirectiveText.{DirectiveText}
 use Rattle.read_kind.specs.declared.directive.DirectiveText.the-variants as directive
 use Rattle.read_kind.specs.declared.directive.ValueText.{ValueText}
 use Rattle.read_kind.specs.declared.directive.ValueText.the-variants as value
+use Rattle.c_answers.specs.Answers.{clipped}
 use Rattle.c_lines.specs.declared.Gff3Line.{Gff3Line}
 use Rattle.c_lines.specs.declared.Gff3CommentText.{Gff3CommentText}
 use Rattle.c_lines.specs.declared.Gff3DirectiveText.{Gff3DirectiveText}
@@ -17,9 +20,14 @@ use Rattle.c_lines.specs.declared.Gff3DirectiveText.{Gff3DirectiveText}
 abbrev pub cursor-of-c : ℕ → Cursor
 cursor-of-c at = record { at = at }
 
-abbrev pub c-line : Next → Gff3Line
-c-line (next.Line place cursor) = record { done = 0; start = place .start; end = place .end; next = cursor .at }
-c-line next.Done = record { done = 1; start = 0; end = 0; next = 0 }
+-- an answer at a cursor that counts as `here`
+abbrev pub c-line : ℕ → Next → Gff3Line
+c-line here (next.Line place cursor) = record { done = 0; start = place .start; end = place .end; next = cursor .at }
+c-line here next.Done = record { done = 1; start = 0; end = 0; next = here }
+
+-- what `gff3_next_line` answers
+abbrev pub c-next-line : List ℕ → ℕ → Gff3Line
+c-next-line s at = c-line (clipped s at) (next-line s (cursor-of-c at))
 
 abbrev pub c-comment : CommentText → Gff3CommentText
 c-comment (comment.At place) = record { is = 1; start = place .start; end = place .end }

@@ -3,8 +3,9 @@
 // The C functions, which bindings/ declares for C and Rust, take numbers and slices and answer a `#[repr(C)]` struct of numbers. Each calls
 // the library's function of the same purpose, and turns its answer into the struct.
 //
-// Proved: each struct is the library's definition of the answer, by one definition for each enum, which gives document 01's number and
-// values for each case. Every function takes any bytes and numbers. Assumes nothing.
+// Proved: each struct is the library's definition of the answer, by one definition for each enum, which gives each case its numbers and
+// places (RULES 10, 16); a cursor handed out is never beyond the text, and where a walk is done another call with it answers the same
+// (proofs/CursorLaws.antt). Every function takes any bytes and numbers. Assumes nothing.
 use read_kind::CommentText;
 use read_kind::DirectiveText;
 use read_kind::Kind;
@@ -13,8 +14,7 @@ use read_lines::Cursor;
 use read_lines::Next;
 ghost use mathlib.Core.Path.{_≡_};
 ghost use Rattle.read_kind.specs.Kind.{kind, kind-number, comment-of, directive-of};
-ghost use Rattle.read_lines.specs.Step.{next-line};
-ghost use Rattle.c_lines.specs.Line.{c-line, cursor-of-c, c-comment, c-directive};
+ghost use Rattle.c_lines.specs.Line.{c-next-line, c-comment, c-directive};
 
 #[repr(C)]
 pub struct Gff3Line {
@@ -41,10 +41,10 @@ pub struct Gff3DirectiveText {
     pub value_end: usize,
 }
 
-// The next line from `at` on, and the cursor behind it.
+// The next line from `at` on, and the cursor behind it; where the walk is done, the text's end.
 #[no_mangle]
 pub extern "C" fn gff3_next_line(text: &[u8], at: usize) -> Gff3Line
-    ensures { λ r. ⌜ r ≡ c-line (next-line (now (text .entry)) (cursor-of-c at)) ⌝ }
+    ensures { λ r. ⌜ r ≡ c-next-line (now (text .entry)) at ⌝ }
 {
     match read_lines::next_line(text, Cursor { at }) {
         Next::Line(place, cursor) => Gff3Line {
@@ -57,7 +57,7 @@ pub extern "C" fn gff3_next_line(text: &[u8], at: usize) -> Gff3Line
             done: 1,
             start: 0,
             end: 0,
-            next: 0,
+            next: base_numbers::least(at, text.len()),
         },
     }
 }

@@ -1,4 +1,4 @@
--- A line judged and unfolded as C has it, a case at a time. Assumes nothing: these are definitions.
+-- A line judged and unfolded as C has it, a case at a time (RULES 16). Assumes nothing: these are definitions.
 use Prim.Native.Nat.{ℕ}
 use mathlib.Core.List.{List}
 use Rattle.base_buffer.specs.declared.Written.{Written}

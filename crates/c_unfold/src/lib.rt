@@ -1,7 +1,7 @@
 // Gives C a line judged, and a line unfolded into a sheet and numbers.
 //
-// Proved: each struct, and the whole buffer, are the library's definitions of them, by one definition for each enum, which gives document
-// 01's number and values for each case. Every function takes any bytes. Assumes nothing.
+// Proved: each struct, and the whole buffer, are the library's definitions of them, by one definition for each enum, which gives each
+// case its numbers (RULES 10, 16). Every function takes any bytes. Assumes nothing.
 use base_buffer::Written;
 use read_judge::Judged;
 use read_judge::Numbers;
@@ -72,8 +72,8 @@ pub extern "C" fn gff3_judge(line: &[u8]) -> Gff3Unfolded
 
 // The sheet of a line in a lent buffer, and the numbers beside it. Refusals 24, 1, 2, 17, 3, 4, 5, 22.
 #[no_mangle]
-pub extern "C" fn gff3_unfold(line: &[u8], out: &mut [u8]) -> Gff3Unfolded
-    ensures { λ r. ⌜ CUnfolds (now (line .entry)) (now (out .entry)) (now (out .exit)) r ⌝ }
+pub extern "C" fn gff3_unfold(line: &[u8], sheet: &mut [u8]) -> Gff3Unfolded
+    ensures { λ r. ⌜ CUnfolds (now (line .entry)) (now (sheet .entry)) (now (sheet .exit)) r ⌝ }
 {
-    unfolded_of(read_record::unfold(line, out))
+    unfolded_of(read_record::unfold(line, sheet))
 }

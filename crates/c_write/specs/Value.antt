@@ -1,4 +1,4 @@
--- The value of a directive as C hands it in. Assumes nothing: these are definitions.
+-- The value of a directive as C hands it in (RULES 16.1, 16.3). Assumes nothing: these are definitions.
 use Prim.Native.Nat.{ℕ}
 use mathlib.Core.Bool.{cond}
 use lib.Dec.{eqb}

@@ -1,4 +1,4 @@
--- What an encoder is known by. Assumes nothing: these are definitions.
+-- What an encoder is known by: RFC 3986, section 2.4, and RULES 6. Assumes nothing: these are definitions.
 use Prim.Native.Nat.{ℕ, _*_, _≤_}
 use mathlib.Core.Path.{_≡_}
 use mathlib.Core.Bool.{Bool, true, not, _&&_, _||_}

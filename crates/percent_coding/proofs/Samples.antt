@@ -1,4 +1,4 @@
--- Samples, computed: those of document 01 that are marked to be proved, and examples of RFC 3986. Assumes nothing.
+-- Samples, computed: those of RULES 14, and examples of RFC 3986. Assumes nothing.
 use mathlib.Core.Path.{_≡_, refl}
 use Rattle.base_lists.specs.Bytes.{ascii}
 use Rattle.percent_coding.specs.Percent.{is-hex, hex-value, decoded}

@@ -1,5 +1,5 @@
--- Percent coding: RFC 3986, section 2.1 (`pct-encoded = "%" HEXDIG HEXDIG`), capital digits by section 6.2.2.1, and document 01,
--- "Reading a line" and "Writing". Assumes nothing: these are definitions.
+-- Percent coding: RFC 3986, section 2.1 (`pct-encoded = "%" HEXDIG HEXDIG`), capital digits by section 6.2.2.1; GFF3, Description of
+-- the Format; RULES 6.1, 6.2. Assumes nothing: these are definitions.
 use Prim.Native.Nat.{ℕ, _+_, _*_, _-_, _/_, _%_}
 use mathlib.Core.Bool.{Bool, true, false, cond, _&&_, _||_}
 use mathlib.Core.List.{List, [], _∷_, _++_}
@@ -8,7 +8,7 @@ use Rattle.base_lists.specs.Bytes.{between, percent}
 
 -- ── hex digits ──
 
--- 0 to 9, A to F, a to f
+-- RFC 3986, section 2.1, HEXDIG: 0 to 9, A to F, and by section 6.2.2.1 a to f
 unfoldable pub is-hex : ℕ → Bool
 is-hex x = between 48 57 x || between 65 70 x || between 97 102 x
 
@@ -22,7 +22,8 @@ hex-digit n = cond (leb n 9) (48 + n) (55 + n)
 
 -- ── decoding ──
 
--- `%` and two hex digits of either case give a byte; any other `%` stays, and reading goes on at the next byte
+-- RFC 3986, section 2.1: `%` and two hex digits of either case give a byte. RULES 6.1: any other `%` stays, and reading goes on at the next
+-- byte
 unfoldable pub decoded : List ℕ → List ℕ
 decoded [] = []
 decoded (x ∷ []) = x ∷ []
@@ -32,7 +33,7 @@ decoded (x ∷ y ∷ z ∷ s) =
 
 -- ── encoding ──
 
--- the escape of a byte: `%` and two capital hex digits
+-- the escape of a byte, RFC 3986, sections 2.1 and 6.2.2.1: `%` and two capital hex digits
 unfoldable pub escape : ℕ → List ℕ
 escape x = percent ∷ hex-digit (x / 16) ∷ hex-digit (x % 16) ∷ []
 

@@ -1,4 +1,4 @@
--- Encoding: why it is refused, document 01, "Refusal numbers". Assumes nothing: these are definitions.
+-- Encoding: why it is refused, RULES 11.6, 12. Assumes nothing: these are definitions.
 use Prim.Native.Nat.{ℕ}
 use mathlib.Core.List.{List, [], _∷_}
 use lib.Dec.{ltb}

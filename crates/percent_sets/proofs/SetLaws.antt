@@ -1,7 +1,7 @@
 -- Each set has a coder, and the bytes that never come out of it are those that would end a column, a field or a record. Assumes nothing.
 use Prim.Native.Nat.{ℕ, _<_}
 use mathlib.Core.Path.{_≡_, refl}
-use mathlib.Core.Bool.{true}
+use mathlib.Core.Bool.{Bool, true, not, _||_}
 use Rattle.base_lists.specs.Bytes.{hash, percent, ampersand, comma, semicolon, equals}
 use Rattle.base_lists.proofs.TableLaws.{below-holds}
 use Rattle.percent_coding.specs.Percent.{is-hex, encoded}
@@ -18,6 +18,20 @@ unfolding escapes
 escapes-percent Name = refl
 escapes-percent Column = refl
 escapes-percent Attribute = refl
+
+-- whether the set of column 1 escapes a byte, if a set does
+abbrev name-too : Set → ℕ → Bool
+name-too set b = not (escapes set b) || escapes Name b
+
+name-too-holds : (set : Set) (b : ℕ) → b < 256 → name-too set b ≡ true
+unfolding escapes
+name-too-holds Name = below-holds 256 (name-too Name) refl
+name-too-holds Column = below-holds 256 (name-too Column) refl
+name-too-holds Attribute = below-holds 256 (name-too Attribute) refl
+
+-- the set of column 1 escapes every byte that any of the sets does
+pub name-escapes-most : (set : Set) (b : ℕ) → b < 256 → escapes set b ≡ true → escapes Name b ≡ true
+name-escapes-most set b h e = rw e at (name-too-holds set b h)
 
 pub coder-of : (set : Set) → Coder (bars set) (encoded (escapes set))
 coder-of set = coder-encoded (escapes set) (escapes-percent set)

@@ -1,4 +1,4 @@
--- Which bytes never come out where a set's text is encoded. Assumes nothing: these are definitions.
+-- Which bytes never come out where a set's text is encoded (RULES 6.2). Assumes nothing: these are definitions.
 use Prim.Native.Nat.{ℕ}
 use mathlib.Core.Bool.{Bool}
 use Rattle.percent_coder.specs.Coder.{barred}

@@ -1,4 +1,4 @@
--- Which bytes each set escapes: document 01, "Writing". Assumes nothing: these are definitions.
+-- Which bytes each set escapes: RULES 6.3. Assumes nothing: these are definitions.
 use Prim.Native.Nat.{ℕ, zero, suc, _+_}
 use mathlib.Core.Bool.{Bool, cond, not, _||_}
 use mathlib.Core.List.{List, [], _∷_}
@@ -8,15 +8,15 @@ use Rattle.base_lists.specs.Bytes.{between, among, ascii, percent, ampersand, c
 use Rattle.percent_sets.specs.declared.Set.{Set}
 use Rattle.percent_sets.specs.declared.Set.the-variants.{Name, Column, Attribute}
 
--- columns 2 and 3: 0x00 to 0x1F, 0x7F, `%` and every byte from 0x80
+-- columns 2 and 3, GFF3, Description of the Format: 0x00 to 0x1F, 0x7F and `%`; as in the Rust, also every byte from 0x80
 abbrev pub column-set : ℕ → Bool
 column-set x = between 0 31 x || among (127 ∷ percent ∷ []) x || leb 128 x
 
--- tags and values: also `;` `=` `&` `,`
+-- tags and values, GFF3, Column 9, attributes: also `;` `=` `&` `,`
 abbrev pub attribute-set : ℕ → Bool
 attribute-set x = column-set x || among (semicolon ∷ equals ∷ ampersand ∷ comma ∷ []) x
 
--- column 1: all but letters, digits and `.` `:` `^` `*` `$` `@` `!` `+` `_` `?` `-` `|`
+-- column 1, GFF3, Column 1, seqid: all but letters, digits and `.` `:` `^` `*` `$` `@` `!` `+` `_` `?` `-` `|`
 abbrev pub name-set : ℕ → Bool
 name-set x =
     not (between 65 90 x || between 97 122 x || between 48 57 x

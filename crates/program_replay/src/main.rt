@@ -1,19 +1,15 @@
 // Replays a list of cases, a line a case; what it answers is held to the stored answers of the Rust.
 //
-// `stdin` has the cases, and `stdout` what they should give, taken from outside (the Rust's answers, and the worked examples of the
-// documents). tools/make-vectors makes the list.
-//
-// A case is a letter and its words: numbers in decimal, texts in hex, `-` for the empty text. A buffer that a call writes is filled with
-// 0xAA first and shown whole, so that the bytes that are not to be touched are seen.
-mod case;
-mod columns_cases;
-mod directive_cases;
-mod leaves;
-mod line_cases;
-mod show;
-mod writing_cases;
-
-use case::Case;
+// `stdin` has the cases, and `stdout` what they should give, taken from outside (the Rust's answers, and the samples of RULES 14).
+// tools/make-vectors makes the list. program_replay_words says what a case is made of; program_replay_read and program_replay_write have
+// them, each above the function that answers it.
+use program_replay_read::attributes_cases;
+use program_replay_read::columns_cases;
+use program_replay_read::directive_cases;
+use program_replay_read::leaves;
+use program_replay_read::line_cases;
+use program_replay_words::case;
+use program_replay_words::show;
 use read_lines::Cursor;
 use read_lines::Next;
 
@@ -22,37 +18,37 @@ fn comment(line: &[u8]) {
     io::write_all(1, line);
 }
 
-// One case, with the texts that its first two words stand for: the letter says which function is called.
-fn answer<'a>(line: &'a [u8], text: &'a [u8], other: &'a [u8]) {
-    let case = case::letter(line);
-    match case {
-        Case::Comment => comment(line),
-        Case::Find => leaves::find(line, text),
-        Case::Word => leaves::word(line, text),
-        Case::Position => leaves::position(text),
-        Case::RegionPosition => leaves::region_position(text),
-        Case::VersionPart => leaves::version_part(text),
-        Case::Decimal => leaves::decimal(line),
-        Case::Decode => leaves::decode(line, text),
-        Case::Encode => leaves::encode(line, text),
-        Case::Lines => line_cases::lines_of(text),
-        Case::Kind => line_cases::kind(text),
-        Case::CommentText => line_cases::comment(text),
-        Case::Directive => line_cases::directive(text),
-        Case::Bounds => columns_cases::bounds(text),
-        Case::Record => columns_cases::record(text, other),
-        Case::Walk => columns_cases::walk(text),
-        Case::Values => columns_cases::values_of(text),
-        Case::Lookup => columns_cases::lookup_of(text, other),
-        Case::Version => directive_cases::version(text),
-        Case::Region => directive_cases::region(text),
-        Case::Build => directive_cases::build(text),
-        Case::Judge => writing_cases::judge(text),
-        Case::Unfold => writing_cases::unfold_line(line, text),
-        Case::WriteRecord => writing_cases::record_line(line, text),
-        Case::WriteComment => writing_cases::comment(line, text),
-        Case::WriteDirective => writing_cases::directive(line, text, other),
-        Case::Unknown => show::word(b"?"),
+// One case, with its letter, which says what is called, and the texts that its first two words stand for.
+fn answer<'a>(letter: u8, line: &'a [u8], text: &'a [u8], other: &'a [u8]) {
+    match letter {
+        b'#' => comment(line),
+        b'f' => leaves::find(line, text),
+        b'w' => leaves::word(line, text),
+        b'p' => leaves::position(text),
+        b'r' => leaves::region_position(text),
+        b'v' => leaves::version_part(text),
+        b'n' => leaves::decimal(line),
+        b'd' => leaves::decode(line, text),
+        b'e' => leaves::encode(line, text),
+        b'L' => line_cases::lines_of(text),
+        b'K' => line_cases::kind(text),
+        b'C' => line_cases::comment(text),
+        b'D' => line_cases::directive(text),
+        b'B' => columns_cases::bounds(text),
+        b'R' => columns_cases::record(text, other),
+        b'F' => attributes_cases::first(text),
+        b'W' => attributes_cases::walk(text),
+        b'V' => attributes_cases::values_of(text),
+        b'T' => attributes_cases::lookup_of(text, other),
+        b'1' => directive_cases::version(text),
+        b'2' => directive_cases::region(text),
+        b'3' => directive_cases::build(text),
+        b'J' => program_replay_write::judge(text),
+        b'U' => program_replay_write::unfold_line(line, text),
+        b's' => program_replay_write::record_line(line, text),
+        b'c' => program_replay_write::comment(line, text),
+        b'k' => program_replay_write::directive(line, text, other),
+        _ => show::word(b"?"),
     }
 }
 
@@ -66,6 +62,7 @@ fn turn(line: &[u8]) {
     let mut other = [0u8; 512];
     let m = case::unhex(line, 2, &mut other);
     answer(
+        line[0],
         line,
         base_scan::part(&text, 0, n),
         base_scan::part(&other, 0, m),

@@ -1,4 +1,4 @@
--- Document 01's own sample of the program, whole, computed from the definition. Assumes nothing.
+-- The program's sample of RULES 14, whole, computed from the definition. Assumes nothing.
 use mathlib.Core.Path.{_≡_, refl}
 use mathlib.Core.List.{flatMap}
 use Rattle.base_lists.specs.Bytes.{ascii, sans}

@@ -1,5 +1,5 @@
--- What the rewriting program writes, document 01, under "Sample lines": records unfolded and written again, other lines as read, a refused
--- line as `! ` and its number, each with a line feed. Assumes nothing: these are definitions.
+-- What the rewriting program writes, RULES 13: records unfolded and written again, other lines as read, a refused line as `! ` and its
+-- number, each with a line feed. Assumes nothing: these are definitions.
 use Prim.Native.Nat.{ℕ}
 use mathlib.Core.Bool.{cond}
 use mathlib.Core.List.{List, [], _∷_, _++_, map}
@@ -18,7 +18,7 @@ use Rattle.read_judge.specs.declared.judging.Numbers.{Numbers}
 use Rattle.read_judge.specs.Judge.{unfolded, numbers-of, unfold-reasons}
 use Rattle.write_measure.specs.Record.{record-reasons, record-line}
 
--- "one buffer of 65,536 zero bytes"; the sheet and line buffers "have the same size"
+-- the size of the program's buffers: the input, a sheet, a line
 abbrev pub room : ℕ
 room = 65536
 
@@ -32,7 +32,7 @@ sheet-from s = sheet-of (unfolded s)
 abbrev pub line-again : List ℕ → Numbers → List ℕ
 line-again sheet n = record-line sheet (n .start) (n .end) (strand-number (n .strand)) (phase-number (n .phase))
 
--- the writer's reasons, and 22 where the line "does not fit"
+-- the writer's reasons, and 22 where the line does not fit
 abbrev pub again-reasons : List ℕ → Numbers → List Reason
 again-reasons sheet n =
     record-reasons sheet (n .start) (n .end) (strand-number (n .strand)) (phase-number (n .phase))
@@ -44,7 +44,7 @@ rewrite-reasons s = unfold-reasons s ++ ((22 when ltb room (length (sheet-from s
 
 -- ── what is written ──
 
--- "`! ` and its number"
+-- `! ` and its number
 abbrev pub refusal : ℕ → List ℕ
 refusal n = ascii "! " ++ decimal n
 
@@ -65,6 +65,6 @@ rewritten-by Directive s = s
 unfoldable pub line-rewritten : List ℕ → List ℕ
 line-rewritten s = rewritten-by (kind s) s
 
--- for a text: "more input: it writes `! 24` and a line feed only"; else each line in its order, "each with a line feed"
+-- for a text: `! 24` alone where it does not fit; else what is written for each line in its order, each with a line feed
 unfoldable pub rewritten : List ℕ → List ℕ
 rewritten s = cond (ltb room (length s)) (text (refusal 24 ∷ [])) (text (map line-rewritten (lines s)))

@@ -22,18 +22,25 @@ use Rattle.read_attributes.proofs.WalkLaws.{fields-met}
 use Rattle.read_attributes.proofs.WrittenLaws.{walk-column}
 use Rattle.write_comment.proofs.RoundTrip.{comment-back}
 use Rattle.write_directive.proofs.RoundTrip.{directive-back, typed-back}
+use Rattle.promise_calls.proofs.Calls.{calls}
+use Rattle.promise_calls.proofs.Blocks.{blocks}
+use Rattle.promise_calls.proofs.InC.{in-c}
+use Rattle.promise_calls.proofs.NoField.{no-field}
 use Rattle.promise_demands.specs.Item.{Item, reasons-of, line-of, Accepted, ReadsBack}
-use Rattle.promise_demands.specs.Survivors.{lines-of, text-of, before, after}
-use Rattle.promise_demands.specs.Survival.{ByLines}
+use Rattle.promise_survival.specs.Survivors.{lines-of, text-of, before, after}
+use Rattle.promise_survival.specs.Survival.{ByLines}
 use Rattle.promise_demands.specs.Demand.{Demand1, Demand2, Demand3, gff3, HandsOut, whole-text}
 use Rattle.promise_demands.proofs.AnswerLaws.{writes, item-numbered, unfold-answers, no-fields}
-use Rattle.promise_demands.proofs.ItemLaws.{sound, done-accepted}
-use Rattle.promise_demands.proofs.Stretch.{survival}
+use Rattle.promise_demands.proofs.ItemLaws.{sound, done-accepted, again-accepted}
+use Rattle.promise_survival.proofs.Stretch.{survival}
 
 -- every call has one answer, and a refused one changes nothing
 pub demand1 : Demand1
 demand1 =
     record {
+      calls = calls;
+      blocks = blocks;
+      in-c = in-c;
       write = λ i. writes (reasons-of i) (line-of i) (item-numbered i);
       encode = λ set s. writes (encode-reasons s) (encoded (escapes set) s) (omega arith, tt);
       decode = λ s. writes [] (decoded s) tt;
@@ -43,6 +50,7 @@ demand1 =
       section = section-refused;
       unfolds = unfold-answers;
       no-field = no-fields;
+      no-field-in-c = no-field;
     }
 
 -- the definitions are what the documents say
@@ -66,11 +74,11 @@ by-lines = record { in-a-row = λ ls ms. refl; all-lines = λ s n h. lines-met n
 
 -- what was written reads back where nothing touched it, whatever became of one stretch of the text
 pub demand3 : Demand3
-demand3 = record { survival = survival gff3 whole-text sound by-lines; written = done-accepted }
+demand3 = record { survival = survival gff3 whole-text sound by-lines; written = done-accepted; again = again-accepted }
 
 -- ── demand 3 spelled out ──────────────────────────────────────────────────────────────────────
 
--- of GFF3 items and `next_line`, without the words of specs/Survival.antt
+-- of GFF3 items and `next_line`, without the words of promise_survival
 pub stretch-replaced : (items : List Item) → Every Accepted items → (a x b y : List ℕ) → text-of line-of items ≡ a ++ (x ++ b)
     → (damaged : List (List ℕ))
     × HandsOut (a ++ (y ++ b))

@@ -8,7 +8,7 @@ use Rattle.read_lines.specs.Lines.{text}
 use Rattle.write_comment.specs.Comment.{comment-reasons, hashed}
 use Rattle.write_texts.specs.Text.{holds}
 use Rattle.promise_demands.specs.Item.{Item, comment, line-of, reasons-of, Typed, Accepted}
-use Rattle.promise_demands.specs.Survivors.{before, after}
+use Rattle.promise_survival.specs.Survivors.{before, after}
 
 -- the comments `#a`, `#b` and `#c` as a text of nine bytes
 abbrev mark : String → Item

@@ -2,6 +2,5 @@ pub mod AnswerLaws
 pub mod Demands
 pub mod ItemLaws
 pub mod Samples
-pub mod Stretch
-pub mod SurvivorLaws
+pub mod TypedLaws
 mod Edges

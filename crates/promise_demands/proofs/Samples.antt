@@ -1,4 +1,4 @@
--- The samples that document 01 marks P hold, all of them: the checker computes each. Assumes nothing.
+-- The samples that RULES 14 marks P hold, all of them: the checker computes each. Assumes nothing.
 use mathlib.Core.Path.{refl}
 use mathlib.Core.List.{flatMap}
 use Rattle.base_lists.specs.Bytes.{Every, sans}

@@ -10,8 +10,8 @@ use mathlib.Core.List.{List, [], _∷_, _++_}
 use mathlib.Core.Option.{Option, none, some}
 use lib.Dec.{ltb}
 use lib.ListN.{length, drop, getD}
-use Rattle.base_lists.specs.Bytes.{Every, Lacks, comma, tab}
-use Rattle.base_buffer.specs.declared.Written.the-variants.{Done}
+use Rattle.base_lists.specs.Bytes.{Every, Bytes, Lacks, comma, tab}
+use Rattle.base_buffer.specs.declared.Written.{Written}
 use Rattle.base_buffer.specs.Answer.{Reason, _when_, refusal-of, number, Wrote}
 use Rattle.write_decimals.specs.Decimal.{decimal}
 use Rattle.percent_sets.specs.declared.Set.{Set}
@@ -45,18 +45,24 @@ use Rattle.read_judge.specs.Judge.{unfolded, unfold-reasons}
 use Rattle.read_record.specs.declared.lay.Unfolded.{Unfolded}
 use Rattle.read_record.specs.declared.lay.Unfolded.the-variants as outcome
 use Rattle.read_record.specs.Unfold.{as-written, Unfolds}
-use Rattle.promise_demands.specs.Item.{Item, line-of, reasons-of, Accepted, ReadsBack}
-use Rattle.promise_demands.specs.Survival.{Writing, Reading, Survival}
+use Rattle.promise_roundtrip.specs.Again.{reasons-left}
+use Rattle.promise_calls.specs.Calls.{Calls}
+use Rattle.promise_calls.specs.Blocks.{Blocks}
+use Rattle.promise_calls.specs.InC.{InC}
+use Rattle.promise_calls.specs.NoField.{NoField}
+use Rattle.promise_demands.specs.Item.{Item, line-of, reasons-of, Typed, Accepted, Accepts, ReadsBack, item-again}
+use Rattle.promise_survival.specs.Survival.{Writing, Reading, Survival}
 
 -- ── demand 1 ──────────────────────────────────────────────────────────────────────────────────
 
--- "Every call takes any bytes and numbers and ends, with an answer or with the refusal that document 01 names for that input. No caller has to
--- check first. A refused call changes no byte of its output buffer and hands out no field."
+-- RULES 15.1: "Every call takes any bytes and numbers and ends, with an answer or with the refusal that these rules name for that input. No
+-- caller has to check first. A refused call changes no byte of its output buffer and hands out no field."
 
--- No function has a condition, each ends, and each promise allows one result: that stands with the functions, which docs/PROMISES.md lists.
--- Here is what is common to all calls that are lent a buffer. P d d' r is the promise of such a call: that it may answer r, where its buffer
--- held d before and holds d' after. Whatever d is, there is an answer, and one only. Its number is that of the first reason that holds, no
--- room for so many bytes being the last reason, and 0 where none holds. Where it is not 0, the buffer holds what it held.
+-- The crate promise_calls says of each public function's own code that it takes any arguments and ends, which answer it gives, and that it
+-- gives no other. Here is what is common to all calls that are lent a buffer. P d d' r is the promise of such a call: that it may answer r,
+-- where its buffer held d before and holds d' after. Whatever d is, there is an answer, and one only. Its number is that of the first
+-- reason that holds, no room for so many bytes being the last reason, and 0 where none holds. Where it is not 0, the buffer holds what it
+-- held.
 pub record Answers {A : Type 0} (number-of : A → ℕ) (reasons : List Reason) (bytes : ℕ) (P : List ℕ → List ℕ → A → Type 0) : Type 0 where
   pub some-answer : (d : List ℕ) → (d' : List ℕ) × (r : A) × P d d' r
   pub one-answer : {d d₁ d₂ : List ℕ} {r₁ r₂ : A} → P d d₁ r₁ → P d d₂ r₂ → (r₁ ≡ r₂) × (d₁ ≡ d₂)
@@ -73,7 +79,11 @@ fields (outcome.Done numbers n) = some numbers
 fields (outcome.Refused n) = none
 fields (outcome.NoRoom n) = none
 
-pub record Demand1 : Type 0 where
+pub record Demand1 : Type 2 where
+  -- every public function takes any arguments, and gives one answer (RULES 15.4), by the definitions that the demands are stated in
+  pub calls : Calls
+  pub blocks : Blocks
+  pub in-c : InC
   -- `write_record`, `write_directive`, `write_comment`
   pub write : (i : Item) → Writes (reasons-of i) (line-of i)
   -- `encode`, `decode`, `write_decimal`
@@ -88,16 +98,17 @@ pub record Demand1 : Type 0 where
   -- `unfold`, which answers as a writer of the sheet, with the numbers beside it
   pub unfolds : (line : List ℕ)
       → Answers (λ r. number (as-written r)) (unfold-reasons line) (length (sheet-of (unfolded line))) (Unfolds line)
-  -- a refused answer holds no field; nor does that of a field reader, whose `Refused` holds its number alone
+  -- a refused answer holds no field; nor does that of a field reader, whose `Refused` holds its number alone; nor do the structs of C
   pub no-field : (r : Unfolded) → number (as-written r) ≢ 0 → fields r ≡ none
+  pub no-field-in-c : NoField
 
 -- ── demand 2 ──────────────────────────────────────────────────────────────────────────────────
 
--- "On document 01's domain it equals the Rust, shown by runs. Columns, percent coding, attributes and directives are proved against
--- definitions written from the GFF3 specification and RFC 3986."
+-- RULES 15.2: "On the domain of these rules it equals the Rust, shown by runs against it. Columns, percent coding, attributes and directives
+-- are proved against definitions written from the GFF3 specification 1.26 and RFC 3986."
 
--- The runs are made by tools/compare. That a function answers its definition is its promise. Here are the laws that tie the definitions to
--- the two documents; specs/Samples.antt has document 01's samples.
+-- The runs are made by tools/compare. That a function answers its definition is said above, by `Demand1`. Here are the laws that tie the
+-- definitions to the two documents; specs/Samples.antt has the samples of RULES 14.
 pub record Demand2 : Type 0 where
   -- RFC 3986, section 2: whichever set says what is escaped, decoding an encoded text gives it back; no byte of the set comes out but the
   -- percent sign and hex digits; and a byte makes at most three
@@ -125,7 +136,7 @@ pub record Demand2 : Type 0 where
 -- first and in order; so does each one that lies after it together with the line feed before it, last and in order. With nothing replaced
 -- the whole list reads back."
 
--- specs/Survival.antt says this in symbols, for items of any kind and any way of reading. Here is for which.
+-- The crate promise_survival says this in symbols, for items of any kind and any way of reading. Here is for which.
 
 -- records, directives and comments, as their writers write them
 abbrev pub gff3 : Writing
@@ -140,9 +151,18 @@ HandsOut s lines = (n : ℕ) → length s ≤ n → line-steps n s fresh ≡ lin
 abbrev pub whole-text : Reading
 whole-text = record { Event = List ℕ; told = λ lines. lines; Reads = HandsOut }
 
+-- A line that unfolds is written again, from the sheet and the numbers that it unfolds to: RULES 9.5.
+pub record Again (line : List ℕ) : Type 0 where
+  -- the writer refuses them by 24, the sheet is longer than it takes, or by 18, a `CDS` without a phase, and for no other reason
+  pub refused : refusal-of (reasons-of (item-again line)) ≡ refusal-of (reasons-left line)
+  -- where neither holds it accepts them, and they read back from what it writes
+  pub accepted : refusal-of (reasons-left line) ≡ 0 → Accepted (item-again line) × ReadsBack (item-again line) (line-of (item-again line))
+
 pub record Demand3 : Type 0 where
   pub survival : Survival gff3 whole-text
-  -- "the writer accepted": where the writer of an item i is done, having been lent a buffer that held d and now holds d', no reason to
-  -- refuse i holds, and the buffer starts with the line that is meant above
-  pub written : (i : Item) (d d' : List ℕ) (n : ℕ) → Wrote (reasons-of i) (line-of i) d d' (Done n)
-      → (refusal-of (reasons-of i) ≡ 0) × (n ≡ length (line-of i)) × (d' ≡ line-of i ++ drop n d)
+  -- "the writer accepted": where the writer of an item i is done, having been lent a buffer that held d and now holds d', the item is
+  -- accepted as it is meant above, and the buffer starts with its line. `Typed i` is what the types of the writer's parameters say, and
+  -- nothing else: src/callers.rt calls each writer with any arguments, and promises the same
+  pub written : (i : Item) → Typed i → (d d' : List ℕ) (r : Written) → Wrote (reasons-of i) (line-of i) d d' r → Accepts i d d' r
+  -- any line of bytes that unfolding does not refuse
+  pub again : (line : List ℕ) → Bytes line → refusal-of (unfold-reasons line) ≡ 0 → Again line

@@ -1,4 +1,4 @@
--- The samples that document 01, "Sample lines", marks P, as one list: of each the document's words, and the equation that they stand for,
+-- The samples that RULES 14 marks P, as one list: of each its words, and the equation that they stand for,
 -- over the definitions that the functions' promises cite. Some stand in the crates' own Samples too, so that a change is refused where it
 -- is made. Assumes nothing: these are definitions.
 use Prim.Native.Nat.{ℕ}
@@ -30,7 +30,7 @@ use Rattle.write_measure.specs.Record.{record-reasons, record-line}
 
 -- ── what the list is made of ──────────────────────────────────────────────────────────────────
 
--- a sample: document 01's words, and what they say
+-- a sample: its words, and what they say
 pub record Sample : Type 1 where
   pub words : String
   pub says : Type 0

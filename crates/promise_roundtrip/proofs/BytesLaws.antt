@@ -1,14 +1,15 @@
--- A line of bytes is unfolded into a sheet of bytes, and into positions of 64 bits. Assumes nothing.
+-- A line of bytes is unfolded into a sheet of bytes, whose attributes have a value each, and into positions of 64 bits. Assumes nothing.
 use Prim.Native.Nat.{ℕ, zero, suc, _+_, _-_, _*_, _<_, _≤_}
 use native.Mathlib.Omega.{arith}
-use mathlib.Core.Path.{_≡_, refl}
+use mathlib.Core.Path.{_≡_, refl, sym, ap, _∙_}
+use mathlib.Core.Logic.{_≢_}
 use mathlib.Core.Bool.{Bool, true, false, cond, not, _&&_, _||_}
-use mathlib.Core.List.{List, [], _∷_, _++_, flatMap}
+use mathlib.Core.List.{List, [], _∷_, _++_, map, flatMap}
 use mathlib.Core.Option.{Option, none, some}
 use lib.Dec.{eqb, ltb}
 use lib.ListN.{length, take, drop}
 use borrow.Author.Tests.{ltb-true}
-use Rattle.base_lists.specs.Bytes.{Every, Bytes}
+use Rattle.base_lists.specs.Bytes.{Every, Bytes, comma}
 use Rattle.base_lists.proofs.BoolLaws.{and-left, and-right}
 use Rattle.base_lists.proofs.EveryLaws.{every-append, every-map}
 use Rattle.base_lists.proofs.TableLaws.{below-holds}
@@ -18,9 +19,11 @@ use Rattle.read_numbers.specs.Number.{position, most64}
 use Rattle.read_numbers.proofs.NumberLaws.{numeral-bounds}
 use Rattle.percent_coding.specs.Percent.{is-hex, hex-value, decoded}
 use Rattle.read_values.specs.Pieces.{pieces-after, pieces}
+use Rattle.read_values.proofs.PiecesLaws.{pieces-next}
 use Rattle.base_words.specs.Same.{is-dot}
 use Rattle.read_attributes.specs.Attributes.{Walk, done, refused, then, tag-after, value-after, walk-from, walk, Attribute, attribute}
-use Rattle.read_attributes.specs.Attributes.{and-before, attributes}
+use Rattle.read_attributes.specs.Attributes.{values, and-before, attributes}
+use Rattle.read_attributes.specs.Written.{Writable}
 use Rattle.read_tokens.specs.Tokens.{position-by, position-of}
 use Rattle.read_columns.specs.declared.column.Column.{Column}
 use Rattle.read_columns.specs.declared.column.Column.the-variants as column
@@ -116,27 +119,26 @@ walk-bytes : (s : List ℕ) → Bytes s → WalkBytes (walk s)
 unfolding walk-from
 walk-bytes s h = either (is-dot s) _ _ tt (tag-bytes [] s tt h)
 
--- an attribute of bytes
-record OfBytes (a : Attribute) : Type 0 where
-  tag-good : Bytes (a .tag)
-  values-good : Every Bytes (a .values)
+-- a value splits into one piece at least
+some-values : (value : List ℕ) → values value ≢ []
+some-values value none-left = omega (arith, ap length (sym none-left ∙ ap (map decoded) (pieces-next comma 0 value)))
 
-attribute-good : (tag value : List ℕ) → Bytes tag → Bytes value → OfBytes (attribute tag value)
+attribute-good : (tag value : List ℕ) → Bytes tag → Bytes value → Writable (attribute tag value)
 unfolding attribute
 attribute-good tag value p q =
     record {
-      tag-good =
-          decoded-bytes tag p;
-      values-good = every-map decoded Bytes Bytes decoded-bytes (pieces 44 value) (pieces-bytes 44 [] value tt q);
+      tag-bytes = decoded-bytes tag p;
+      value-bytes = every-map decoded Bytes Bytes decoded-bytes (pieces comma value) (pieces-bytes comma [] value tt q);
+      a-value = some-values value;
     }
 
-attributes-good : (w : Walk) → WalkBytes w → Every OfBytes (got (attributes w))
+attributes-good : (w : Walk) → WalkBytes w → Every Writable (got (attributes w))
 unfolding attributes
 attributes-good done h = tt
 attributes-good refused h = tt
 attributes-good (then tag value w) h = go (attributes w) (attribute-good tag value (h .0) (h .1)) (attributes-good w (h .2))
   where
-    go : {a : Attribute} (o : Option (List Attribute)) → OfBytes a → Every OfBytes (got o) → Every OfBytes (got (and-before a o))
+    go : {a : Attribute} (o : Option (List Attribute)) → Writable a → Every Writable (got o) → Every Writable (got (and-before a o))
     go none p q = tt
     go (some l) p q = (p, q)
 
@@ -159,35 +161,49 @@ counted-bytes {A} w Good k l h = number-bytes (length l) (flatMap w l) (flat l h
     flat [] h = tt
     flat (a ∷ l) h = every-append (λ x. x < 256) (w a) (flatMap w l) (k a (h .0)) (flat l (h .1))
 
-attribute-bytes : (a : Attribute) → OfBytes a → Bytes (attribute-of a)
+attribute-bytes : (a : Attribute) → Writable a → Bytes (attribute-of a)
 unfolding attribute-of
 attribute-bytes a g =
-    every-append (λ x. x < 256) (section-of (a .tag)) _ (section-bytes (a .tag) (g .tag-good))
-    (counted-bytes section-of Bytes section-bytes (a .values) (g .values-good))
+    every-append (λ x. x < 256) (section-of (a .tag)) _ (section-bytes (a .tag) (g .tag-bytes))
+    (counted-bytes section-of Bytes section-bytes (a .values) (g .value-bytes))
 
 -- a section, and what follows
 behind : (t rest : List ℕ) → Bytes t → Bytes rest → Bytes (section-of t ++ rest)
 behind t rest h k = every-append (λ x. x < 256) (section-of t) rest (section-bytes t h) k
 
-sheet-bytes : (s : Sheet) → Bytes (s .name) → Bytes (s .source) → Bytes (s .type) → Bytes (s .score) → Every OfBytes (s .attributes)
-    → Bytes (sheet-of s)
+-- each text of the sheet is bytes, and each attribute has a value
+pub record SheetBytes (s : Sheet) : Type 0 where
+  pub name-bytes : Bytes (s .name)
+  pub source-bytes : Bytes (s .source)
+  pub type-bytes : Bytes (s .type)
+  pub score-bytes : Bytes (s .score)
+  pub attributes-bytes : Every Writable (s .attributes)
+
+sheet-bytes : (s : Sheet) → SheetBytes s → Bytes (sheet-of s)
 unfolding sheet-of
-sheet-bytes s n o t c l =
+sheet-bytes s b =
     let rest₄ = counted-of attribute-of (s .attributes) in
     let rest₃ = section-of (s .score) ++ rest₄ in
     let rest₂ = section-of (s .type) ++ rest₃ in
     let rest₁ = section-of (s .source) ++ rest₂ in
-    behind (s .name) rest₁ n (behind (s .source) rest₂ o (behind (s .type) rest₃ t
-    (behind (s .score) rest₄ c (counted-bytes attribute-of OfBytes attribute-bytes (s .attributes) l))))
+    behind (s .name) rest₁ (b .name-bytes) (behind (s .source) rest₂ (b .source-bytes) (behind (s .type) rest₃ (b .type-bytes)
+    (behind (s .score) rest₄ (b .score-bytes) (counted-bytes attribute-of Writable attribute-bytes (s .attributes) (b .attributes-bytes)))))
+
+pub unfolded-texts : (s : List ℕ) → Bytes s → SheetBytes (unfolded s)
+unfolding unfolded
+unfolded-texts s h =
+    let text : (c : Column) → Bytes (decoded (column-text c s)) = λ c. decoded-bytes (column-text c s) (column-bytes c s h) in
+    let column-9 = column-text column.Attributes s in
+    record {
+      name-bytes = text column.ReferenceSequenceName;
+      source-bytes = text column.Source;
+      type-bytes = text column.Ty;
+      score-bytes = score-bytes (column-text column.Score s) (column-bytes column.Score s h);
+      attributes-bytes = attributes-good (walk column-9) (walk-bytes column-9 (column-bytes column.Attributes s h));
+    }
 
 pub unfolded-bytes : (s : List ℕ) → Bytes s → Bytes (sheet-of (unfolded s))
-unfolding unfolded
-unfolded-bytes s h =
-    let text : (c : Column) → Bytes (decoded (column-text c s)) = λ c. decoded-bytes (column-text c s) (column-bytes c s h) in
-    sheet-bytes (unfolded s) (text column.ReferenceSequenceName) (text column.Source) (text column.Ty)
-    (score-bytes (column-text column.Score s) (column-bytes column.Score s h))
-    (attributes-good (walk (column-text column.Attributes s))
-    (walk-bytes (column-text column.Attributes s) (column-bytes column.Attributes s h)))
+unfolded-bytes s h = sheet-bytes (unfolded s) (unfolded-texts s h)
 
 -- ── the positions ─────────────────────────────────────────────────────────────────────────────
 

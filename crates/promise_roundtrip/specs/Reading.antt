@@ -1,5 +1,4 @@
--- What it means that a record reads back, document 01, "The field sheet": "its line has the item's kind and, given room, the same sheet and
--- numbers". Assumes nothing: these are definitions.
+-- What it means that a record reads back, RULES 9.4: its line has the item's kind and, given room, the same sheet and numbers. Assumes nothing: these are definitions.
 use Prim.Native.Nat.{ℕ, _≤_}
 use mathlib.Core.Path.{_≡_}
 use mathlib.Core.List.{List, _++_}
@@ -12,7 +11,7 @@ use Rattle.read_record.specs.declared.lay.Unfolded.{Unfolded}
 use Rattle.read_record.specs.declared.lay.Unfolded.the-variants.{Done}
 use Rattle.read_record.specs.Unfold.{Unfolds}
 
--- what goes beside a sheet, as document 01 numbers it
+-- what goes beside a sheet, by the numbers of RULES 9.2
 pub record AreNumbers (n : Numbers) (start end strand phase : ℕ) : Type 0 where
   pub same-start : n .start ≡ start
   pub same-end : n .end ≡ end

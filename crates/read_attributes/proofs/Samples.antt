@@ -11,7 +11,7 @@ use Rattle.read_values.specs.Pieces.{pieces-after}
 use Rattle.read_attributes.specs.Attributes.{done, refused, then, tag-after, walk-from, walk, attribute, attributes}
 use Rattle.read_attributes.specs.Step.{next-field}
 
--- document 01: `a=1;b;c=2` has tags `a` and `b;c`; `a=1;` has one; `a=1;b` has one, then 5; `=` has an empty tag and an empty value.
+-- RULES 5.2 to 5.4: `a=1;b;c=2` has tags `a` and `b;c`; `a=1;` has one; `a=1;b` has one, then 5; `=` has an empty tag and an empty value.
 -- `a=x%2Cy` is one string `x,y`; `a=x,y` is two. `.` is done at any cursor, and a `.` behind a field is refused.
 samples :
     (walk (ascii "a=1;b;c=2") ≡ then (ascii "a") (ascii "1") (then (ascii "b;c") (ascii "2") done))

@@ -1,7 +1,7 @@
 -- Laws of the walk over column 9: how it goes on at a cursor, what a step means for it, and that steps in a row meet exactly what it
 -- meets. A step is a function of the column and the cursor, so after a refusal, which moves no cursor, the next step answers the same.
 -- Assumes nothing.
-use Prim.Native.Nat.{ℕ, zero, suc, _+_, _-_, _*_, _≤_, _<_}
+use Prim.Native.Nat.{ℕ, zero, suc, _+_, _-_, _*_, _≤_, _<_, min}
 use native.Mathlib.Omega.{arith}
 use native.Mathlib.Nat.{eq-or-lt-of-le}
 use mathlib.Core.Path.{_≡_, refl, sym, ap, _∙_}
@@ -18,6 +18,7 @@ use Rattle.base_scan.specs.Find.{index, is, found}
 use Rattle.base_scan.specs.Part.{part, text-at}
 use Rattle.base_scan.proofs.FindLaws.{index-le, seek-at, seek-le, seek-ge, lacks-before, cut-at, lacks-all}
 use Rattle.base_scan.proofs.PartLaws.{length-part, part-found, drop-found}
+use Rattle.read_values.proofs.ValueLaws.{drop-clipped}
 use Rattle.read_attributes.specs.declared.field.Field.{Field}
 use Rattle.read_attributes.specs.declared.field.Step.{Step}
 use Rattle.read_attributes.specs.declared.field.Step.the-variants.{Is, Done, Refused}
@@ -71,6 +72,11 @@ value-cut tag s =
     (λ h. ap (value-after tag []) (cut-at semicolon s h) ∙ value-begin (take k s) (semicolon ∷ drop (suc k) s) tag [] (lacks-before semicolon s))
     (eq-or-lt-of-le (index-le (is semicolon) s))
 
+-- from a cursor beyond the column on the walk is the one from its end on
+pub walk-clipped : (s : List ℕ) (at : ℕ) → walk-from s (min at (length s)) ≡ walk-from s at
+unfolding walk-from
+walk-clipped s at = rw (← drop-clipped at s)
+
 module _ (s : List ℕ) (at : ℕ) where
   -- one attribute from a cursor on, and what follows
   pub walk-next : at ≤ length s
@@ -92,7 +98,7 @@ module _ (s : List ℕ) (at : ℕ) where
       walk-uncut (drop at s) (simp length-drop (omega arith)) (omega (arith, seek-at (is equals) at s (omega arith), length-drop at s))
 
   -- nothing is left at the end, and beyond it
-  walk-past : length s ≤ at → walk-from s at ≡ done
+  pub walk-past : length s ≤ at → walk-from s at ≡ done
   unfolding walk-from tag-after
   walk-past h = rw (drop-of-length-le s h) (go (is-dot s))
     where
@@ -109,7 +115,7 @@ module _ (s : List ℕ) (at : ℕ) where
     pub tag-end : field .tag .end ≡ at + length (text-at (field .tag) s)
     pub value-start : field .value .start ≡ at + length (text-at (field .tag) s) + 1
     pub value-end : field .value .end ≡ field .value .start + length (text-at (field .value) s)
-    pub next : field .next ≡ field .value .end + 1
+    pub next : field .next ≡ min (field .value .end + 1) (length s)
     pub inside : field .value .end ≤ length s
 
   -- what an answer says of the walk from a cursor on
@@ -126,7 +132,7 @@ module _ (s : List ℕ) (at : ℕ) where
       let t = length-part at e s (omega arith) in
       let g = seek-ge (is equals) at s (omega arith) in
       record {
-        met = rw p (walk-next (omega arith) i);
+        met = rw (walk-clipped s (v + 1), p) (walk-next (omega arith) i);
         tag-start = refl;
         tag-end = omega arith;
         value-start = omega arith;

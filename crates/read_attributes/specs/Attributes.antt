@@ -1,6 +1,6 @@
--- Column 9, document 01, "Reading a line": equal to `.`, or empty, it has no attributes. Otherwise a tag runs to the next `=`, its value
--- to the next `;` or the end; the walk is done when nothing is left. Text that is left without `=` is refused, by number 5. A value splits
--- at each `,`, and splitting comes before decoding. Assumes nothing: these are definitions.
+-- Column 9 (RULES 5; GFF3, Column 9, attributes): equal to `.`, or empty, it has no attributes. Otherwise a tag runs to the next `=`, its
+-- value to the next `;` or the end; the walk is done when nothing is left. Text that is left without `=` is refused, by number 5. A value
+-- splits at each `,`, and splitting comes before decoding. Assumes nothing: these are definitions.
 use Prim.Native.Nat.{ℕ}
 use mathlib.Core.Bool.{Bool, true, false, cond}
 use mathlib.Core.List.{List, [], _∷_, _++_, map}

@@ -1,6 +1,6 @@
--- A step of the walk over column 9, as a function of the column and the cursor alone; and steps in a row. Assumes nothing: these are
--- definitions.
-use Prim.Native.Nat.{ℕ, zero, suc, _+_}
+-- A step of the walk over column 9 (RULES 5.3), as a function of the column and the cursor alone; and steps in a row. Assumes nothing:
+-- these are definitions.
+use Prim.Native.Nat.{ℕ, zero, suc, _+_, min}
 use mathlib.Core.Bool.{cond}
 use mathlib.Core.List.{List}
 use lib.Dec.{eqb, leb}
@@ -14,13 +14,13 @@ use Rattle.read_attributes.specs.declared.field.Step.{Step}
 use Rattle.read_attributes.specs.declared.field.Step.the-variants.{Is, Done, Refused}
 use Rattle.read_attributes.specs.Attributes.{Walk, done, refused, then}
 
--- the attribute that begins at a cursor and whose `=` is at e: the next cursor is one past its `;`, or one past the end
+-- the attribute that begins at a cursor and whose `=` is at e: the next cursor is one past its `;`, or the end
 abbrev pub field-to : List ℕ → ℕ → ℕ → Field
 field-to s at e =
     record {
       tag = record { start = at; end = e };
       value = record { start = e + 1; end = found semicolon (e + 1) s };
-      next = found semicolon (e + 1) s + 1;
+      next = min (found semicolon (e + 1) s + 1) (length s);
     }
 
 -- done where the column is `.`, and at the end and beyond it; refused, by number 5, where no `=` is left
@@ -29,7 +29,7 @@ next-field s at =
     cond (is-dot s) Done
     (cond (leb (length s) at) Done (cond (eqb (found equals at s) (length s)) Refused (Is (field-to s at (found equals at s)))))
 
--- document 01's number of an answer: 5 where it is refused
+-- the number of an answer (RULES 10): 5 where it is refused
 abbrev pub step-refusal : Step → ℕ
 step-refusal (Is field) = 0
 step-refusal Done = 0

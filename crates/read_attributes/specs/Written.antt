@@ -1,5 +1,5 @@
--- Attributes as they are written, document 01, "Writing": the tag, `=`, the values with `,` between them; attributes with `;` between
--- them; no attributes is `.`. Each tag and each value is encoded, by any encoder. Assumes nothing: these are definitions.
+-- Attributes as they are written (RULES 8.2; GFF3, Column 9, attributes): the tag, `=`, the values with `,` between them; attributes with
+-- `;` between them; no attributes is `.`. Each tag and each value is encoded, by any encoder. Assumes nothing: these are definitions.
 use Prim.Native.Nat.{ℕ}
 use mathlib.Core.List.{List, [], _∷_, _++_, map}
 use mathlib.Core.Logic.{_≢_}

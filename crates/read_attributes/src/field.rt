@@ -54,6 +54,6 @@ pub fn next_field(column: &[u8], at: usize) -> Step
     Step::Is(Field {
         tag,
         value,
-        next: end + 1,
+        next: base_numbers::least(end + 1, column.len()),
     })
 }

@@ -4,7 +4,7 @@
 // The functions here work on the column's text and a cursor by value; tags and values are places in the column, raw, which
 // `base_scan::text` reads and `percent_decode::decode` decodes.
 //
-// Proved: a step is its definition, and steps in a row meet exactly what the walk of document 01 meets; the walk over a written column
+// Proved: a step is its definition, and steps in a row meet exactly what the walk of RULES 5.2 meets; the walk over a written column
 // meets what was written. Assumes nothing.
 mod field;
 

@@ -1,4 +1,4 @@
--- Samples of document 01, computed. Assumes nothing.
+-- Samples of RULES 14, computed. Assumes nothing.
 use mathlib.Core.Path.{_≡_, refl}
 use Rattle.base_lists.specs.Bytes.{ascii}
 use Rattle.read_columns.specs.declared.bounds.Indexed.the-variants.{At, Refused}

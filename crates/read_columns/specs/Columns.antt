@@ -1,5 +1,5 @@
--- The columns of a record: document 01, "Reading a line". Columns 1 to 8 end at the first eight tabs and may be empty; column 9 is the
--- rest, further tabs included. Assumes nothing: these are definitions.
+-- The columns of a record: GFF3, Description of the Format (nine columns, split at tabs); RULES 3. Columns 1 to 8 end at the first eight
+-- tabs and may be empty; column 9 is the rest, further tabs included. Assumes nothing: these are definitions.
 use Prim.Native.Nat.{ℕ, zero, suc, _-_}
 use mathlib.Core.Bool.{Bool, false, cond}
 use mathlib.Core.List.{List, [], _∷_, _++_}
@@ -17,7 +17,7 @@ use Rattle.read_columns.specs.declared.column.Column.the-variants as col
 use Rattle.read_columns.specs.declared.column.ColumnRead.{ColumnRead}
 use Rattle.read_columns.specs.declared.column.ColumnRead.the-variants as column-read
 
--- ── document 01's number of each refusal, and 0 where there is none ──
+-- ── the number of each refusal (RULES 10), and 0 where there is none ──
 
 -- fewer than eight tabs
 abbrev pub index-refusal : Indexed → ℕ

@@ -1,7 +1,7 @@
--- The value of `sequence-region`, document 01: words between ASCII white space, name, start, end; positions as the standard Rust integer
--- reader takes them. Extra words are ignored; start may exceed end; the name is not percent-decoded. Refusals, from left to right: 6, the
--- text is empty; 10, name missing; 11, 12, start missing, not valid; 13, 14, end missing, not valid. Assumes nothing: these are
--- definitions.
+-- The value of `sequence-region`, GFF3, Directives; RULES 7.3: words between ASCII white space, name, start, end; positions as the standard
+-- Rust integer reader takes them. Extra words are ignored; start may exceed end; the name is not percent-decoded. Refusals, from left to
+-- right: 6, the text is empty; 10, name missing; 11, 12, start missing, not valid; 13, 14, end missing, not valid. Assumes nothing: these
+-- are definitions.
 use Prim.Native.Nat.{ℕ}
 use mathlib.Core.List.{List, [], _∷_}
 use Rattle.base_scan.specs.declared.place.Place.{Place}
@@ -11,7 +11,7 @@ use Rattle.read_directives.specs.declared.sequence_region.RegionRead.{Re
 use Rattle.read_directives.specs.declared.sequence_region.RegionRead.the-variants.{Is, Refused}
 use Rattle.read_directives.specs.Then.{word-then}
 
--- document 01's number of a refusal, and 0 where there is none
+-- the number of a refusal (RULES 10), and 0 where there is none
 abbrev pub region-refusal : RegionRead → ℕ
 region-refusal (Is r) = 0
 region-refusal (Refused n) = n

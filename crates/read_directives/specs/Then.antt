@@ -1,4 +1,5 @@
--- Parsing from left to right, word by word: the next one, or the answer that refuses it. Assumes nothing: these are definitions.
+-- Parsing from left to right (RULES 11.7), word by word: the next one, or the answer that refuses it. Assumes nothing: these are
+-- definitions.
 use Prim.Native.Nat.{ℕ}
 use mathlib.Core.Bool.{cond}
 use mathlib.Core.List.{List}

@@ -1,6 +1,5 @@
--- What the field readers answer: document 01, "Reading a line" and "Refusal numbers". A field reader refuses 1 where the bounds offered
--- are not the line's own, then gives the field's own number (2, 17, 3 or 4), then 22 where it decodes into a buffer.
--- Assumes nothing: these are definitions.
+-- What the field readers answer: GFF3, Columns 1 to 8; RULES 3, 11.1. A field reader refuses 1 where the bounds offered are not the line's
+-- own, then gives the field's own number (2, 17, 3 or 4), then 22 where it decodes into a buffer. Assumes nothing: these are definitions.
 use Prim.Native.Nat.{ℕ}
 use mathlib.Core.Bool.{cond, not}
 use mathlib.Core.List.{List, [], _∷_}
@@ -22,7 +21,7 @@ use Rattle.read_columns.specs.Columns.{is-own, column-text, column-place}
 use Rattle.read_fields.specs.declared.score.ScoreRead.{ScoreRead}
 use Rattle.read_fields.specs.declared.score.ScoreRead.the-variants as score-read
 
--- ── document 01's number of each refusal, and 0 where there is none ──
+-- ── the number of each refusal (RULES 10), and 0 where there is none ──
 
 abbrev pub score-refusal : ScoreRead → ℕ
 score-refusal score-read.Missing = 0
@@ -31,7 +30,7 @@ score-refusal (score-read.Refused n) = n
 
 -- ── a column's text, judged raw ──
 
--- `.` is missing; else the whole text is the token, which stands at a place; else 17
+-- GFF3, Column 6, score: `.` is missing; else the whole text is the token, which stands at a place; else 17
 unfoldable pub score-of : List ℕ → Place → ScoreRead
 score-of s place = cond (is-dot s) score-read.Missing (cond (is-score s) (score-read.Token place) (score-read.Refused 17))
 

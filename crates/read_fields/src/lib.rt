@@ -3,7 +3,7 @@
 //
 // Every reader takes a line and any bounds, and refuses 1 where they are not the line's own.
 //
-// Proved: each answer is the definition of specs/, in document 01's order of refusals. Assumes nothing.
+// Proved: each answer is the definition of specs/, in the order of RULES 11.1. Assumes nothing.
 mod phase;
 mod position;
 mod score;

@@ -8,7 +8,7 @@ ghost use Rattle.read_fields.specs.Fields.{score-at};
 pub enum ScoreRead {
     // The exact byte `.`.
     Missing,
-    // A token of document 01's grammar, and where it stands in the line.
+    // A token by RULES 4.2, and where it stands in the line.
     Token(Place),
     // 1 or 17.
     Refused(u32),

@@ -12,7 +12,7 @@ use Rattle.read_attributes.specs.declared.field.Step.{Step}
 use Rattle.read_attributes.specs.declared.field.Step.the-variants as step
 use Rattle.read_attributes.specs.Attributes.{Attribute, Walk, done, refused, attribute, attributes, and-before, walk-from, walk, values}
 use Rattle.read_attributes.specs.Step.{next-field}
-use Rattle.read_attributes.proofs.WalkLaws.{Hands, Meets, field-meets}
+use Rattle.read_attributes.proofs.WalkLaws.{Hands, Meets, field-meets, walk-clipped}
 use Rattle.percent_coding.specs.Percent.{decoded}
 use Rattle.percent_coding.proofs.PercentLaws.{length-decoded}
 use Rattle.sheet_form.specs.Sheet.{section-of, counted-of, attribute-of}
@@ -114,12 +114,13 @@ rest-few (suc n) s at h = go (next-field s at) (field-meets s at) (λ next l. re
     go (step.Is field) m more =
         let t = text-at (field .tag) s in
         let v = text-at (field .value) s in
-        rw (m .met)
+        let behind = field .value .end + 1 in
+        rw (m .met, m .next, walk-clipped s behind)
         (omega (
           arith,
-          one-few (attribute t v) (attributes (walk-from s (field .next))),
+          one-few (attribute t v) (attributes (walk-from s behind)),
           attribute-few t v,
-          more (field .next) (omega arith),
+          more behind (omega arith),
         ))
 
 pub attributes-few : (column : List ℕ) → length (rest (walk column)) ≤ 6 + 6 * length column

@@ -24,7 +24,7 @@ use Rattle.read_judge.specs.Judge.{score-of-token, unfolded, numbers-of,
 abbrev front : List ℕ
 front = ascii "sq0\tlab\tgene\t8\t13\t.\t+\t.\t"
 
--- document 01: `a=1;b;c=2` has the tags `a` and `b;c`, so the sheet has 20 bytes of counts, 10 of names, and 14 and 16 of attributes;
+-- RULES 14: `a=1;b;c=2` has the tags `a` and `b;c`, so the sheet has 20 bytes of counts, 10 of names, and 14 and 16 of attributes;
 -- `a=1;b` in column 9 gives 5, nine empty columns give 2, seven tabs 1
 samples :
     (judged (front ++ ascii "a=1;b;c=2") ≡ Is (record { start = 8; end = 13; strand = strand.Forward; phase = phase.None }) 60)

@@ -1,4 +1,4 @@
--- A line judged as unfolding it would: document 01, "The field sheet". Its refusals, in order: 24, 1, 2 (start, end), 17, 3, 4, 5.
+-- A line judged as unfolding it would: RULES 9.3, 11.2. Its refusals, in order: 24, 1, 2 (start, end), 17, 3, 4, 5.
 -- Assumes nothing: these are definitions.
 use Prim.Native.Nat.{ℕ}
 use mathlib.Core.Bool.{Bool, true, false, cond, not, _||_}

@@ -3,7 +3,7 @@
 // The line is taken as a record without looking at its kind. Every refusal of unfolding is answered but 22, and else start, end, strand and
 // phase, and the length of the sheet. `survey` answers besides what laying the sheet takes.
 //
-// Proved: the answers are those of specs/, refusals in document 01's order. The line is indexed once, and no attribute or value is read
+// Proved: the answers are those of specs/, refusals in the order of RULES 11.2. The line is indexed once, and no attribute or value is read
 // more than a fixed number of times. Assumes nothing.
 mod judging;
 mod texts;

@@ -7,7 +7,7 @@ use Rattle.read_kind.specs.declared.directive.DirectiveText.the-variants
 use Rattle.read_kind.specs.declared.directive.ValueText.the-variants.{At, Absent}
 use Rattle.read_kind.specs.Kind.{kind, directive-of}
 
--- document 01: `##` has an empty key and no value; `## ` an empty key and an empty value
+-- RULES 14: `##` has an empty key and no value; `## ` an empty key and an empty value
 directives :
     (directive-of (ascii "##") ≡ Is (record { start = 2; end = 2 }) Absent)
     × (directive-of (ascii "## ") ≡ Is (record { start = 2; end = 2 }) (At (record { start = 3; end = 3 })))

@@ -1,6 +1,7 @@
--- What a line is, and what a comment or a directive holds: document 01, "Reading a line". Starts with `##`: directive. Else starts with
--- `#`: comment, text from byte 1. Else, the empty line included: record. Of a directive, after `##`, the key runs to the first ASCII
--- white space; the value is what follows that byte, and is absent only if there was no such byte. Assumes nothing: these are definitions.
+-- What a line is, and what a comment or a directive holds: GFF3, Description of the Format and Directives; RULES 2. Starts with `##`:
+-- directive. Else starts with `#`: comment, text from byte 1. Else, the empty line included: record. Of a directive, after `##`, the key
+-- runs to the first ASCII white space; the value is what follows that byte, and is absent only if there was no such byte. Assumes nothing:
+-- these are definitions.
 use Prim.Native.Nat.{ℕ, _+_}
 use mathlib.Core.Bool.{Bool, true, false, cond}
 use mathlib.Core.List.{List, [], _∷_}

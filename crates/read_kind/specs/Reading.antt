@@ -1,4 +1,4 @@
--- What it means that a comment or a directive reads back, document 01, "The field sheet": its text, or its key and value text. Assumes
+-- What it means that a comment or a directive reads back, RULES 9.4: its text, or its key and value text. Assumes
 -- nothing: these are definitions.
 use Prim.Native.Nat.{ℕ}
 use mathlib.Core.Path.{_≡_}

@@ -1,4 +1,4 @@
--- The lines of a text: document 01, "Reading a line", first item. A line feed ends a line; one carriage return just before it is
+-- The lines of a text (RULES 1; GFF3, Description of the Format). A line feed ends a line; one carriage return just before it is
 -- removed. A last line without a line feed counts if it has a byte, and keeps a carriage return. Every other line is handed out, blank
 -- ones too. Assumes nothing: these are definitions.
 use Prim.Native.Nat.{ℕ}

@@ -1,4 +1,5 @@
--- One step of the splitter, as a function of the text and the cursor alone, and steps in a row. Assumes nothing: these are definitions.
+-- One step of the splitter (RULES 1.5), as a function of the text and the cursor alone, and steps in a row. Assumes nothing: these are
+-- definitions.
 use Prim.Native.Nat.{ℕ, _+_, _-_}
 use mathlib.Core.Bool.{cond, _&&_}
 use mathlib.Core.List.{List}

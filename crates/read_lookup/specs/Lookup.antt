@@ -1,5 +1,5 @@
--- Lookup, document 01: the first attribute whose decoded tag matches, unless a refusal comes earlier; and the added lookup, which
--- answers the raw value, or the caller's fallback where the tag is absent or 5 comes first. Assumes nothing: these are definitions.
+-- Lookup (RULES 5.5): the first attribute whose decoded tag matches, unless a refusal comes earlier; and the added lookup (RULES 5.6),
+-- which answers the raw value, or the caller's fallback where the tag is absent or 5 comes first. Assumes nothing: these are definitions.
 use Prim.Native.Nat.{ℕ, _+_}
 use mathlib.Core.Bool.{cond}
 use mathlib.Core.List.{List}
@@ -49,7 +49,7 @@ find-in tag at (met.then t v w) =
 unfoldable pub find-tag : List ℕ → List ℕ → Found
 find-tag column tag = find-in tag 0 (walk column)
 
--- document 01's number of an answer: 5 where it is refused
+-- the number of an answer (RULES 10): 5 where it is refused
 abbrev pub found-refusal : Found → ℕ
 found-refusal (At place) = 0
 found-refusal Absent = 0

@@ -1,5 +1,4 @@
--- Numbers as they are read: document 01, "Reading a line" and "Refusal numbers" (2, 7 to 9, 12, 14). Assumes nothing: these are
--- definitions.
+-- Numbers as they are read: RULES 4.1, 7.2, 7.3. Assumes nothing: these are definitions.
 use Prim.Native.Nat.{ℕ, _+_, _-_, _*_}
 use mathlib.Core.Bool.{Bool, true, false, cond, _&&_}
 use mathlib.Core.List.{List, [], _∷_}
@@ -41,15 +40,15 @@ most64 = 18446744073709551615
 abbrev pub most32 : ℕ
 most32 = 4294967295
 
--- columns 4 and 5: a sign is refused
+-- GFF3, Columns 4 and 5, start and end: positive, counted from 1; a sign is refused
 abbrev pub position : List ℕ → Number
 position s = numeral 1 most64 s
 
--- the positions of a region, as the standard Rust reader takes them: `+` is allowed, zero refused
+-- the positions of a region (GFF3, Directives), as the standard Rust reader takes them: `+` is allowed, zero refused
 abbrev pub region-position : List ℕ → Number
 region-position s = numeral 1 most64 (sans (is plus) s)
 
--- a part of a version: `+` is allowed, 32 bits
+-- a part of a version (GFF3, Directives): `+` is allowed, 32 bits
 abbrev pub version-part : List ℕ → Number
 version-part s = numeral 0 most32 (sans (is plus) s)
 

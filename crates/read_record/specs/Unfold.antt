@@ -1,5 +1,5 @@
--- Unfolding, document 01, "The field sheet": it "turns a line into sheet and numbers, taking it as a record without looking at its kind".
--- Its refusals, in order: 24, 1, 2 (start, end), 17, 3, 4, 5, which are those of `read_judge`, and 22. Assumes nothing: these are definitions.
+-- Unfolding, RULES 9.3, 11.2: it turns a line into a sheet and numbers, and takes it as a record without a look at its kind. Its
+-- refusals, in order: 24, 1, 2 (start, end), 17, 3, 4, 5, which are those of `read_judge`, and 22. Assumes nothing: these are definitions.
 use Prim.Native.Nat.{ℕ}
 use mathlib.Core.Path.{_≡_}
 use mathlib.Core.List.{List}

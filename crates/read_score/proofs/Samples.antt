@@ -1,4 +1,4 @@
--- Samples of document 01, computed. Assumes nothing.
+-- Samples of RULES 4.2, computed. Assumes nothing.
 use mathlib.Core.Path.{_≡_, refl}
 use mathlib.Core.Bool.{true, false}
 use mathlib.Core.List.{[]}

@@ -1,5 +1,5 @@
--- A score token, document 01, "The field sheet": optional `-`, digits, optional `.` and digits, optional `e` or `E` with optional sign
--- and digits; each run of digits has at least one. Assumes nothing: these are definitions.
+-- A score token: GFF3, Column 6, score (a floating point number), by the grammar of RULES 4.2: optional `-`, digits, optional `.` and
+-- digits, optional `e` or `E` with optional sign and digits; each run of digits has at least one. Assumes nothing: these are definitions.
 use Prim.Native.Nat.{ℕ}
 use mathlib.Core.Bool.{Bool, true, cond, not, _&&_, _||_}
 use mathlib.Core.List.{List, [], _∷_}

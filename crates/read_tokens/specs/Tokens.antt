@@ -1,5 +1,5 @@
--- What a field's own text is read as: document 01, "Reading a line" and "Refusal numbers". A text that is none is refused by the
--- field's own number: 2 for a position, 3 for a strand, 4 for a phase. Assumes nothing: these are definitions.
+-- What a field's own text is read as: RULES 4. A text that is none is refused by the field's own number: 2 for a position, 3 for a strand,
+-- 4 for a phase. Assumes nothing: these are definitions.
 use Prim.Native.Nat.{ℕ}
 use mathlib.Core.Bool.{cond}
 use mathlib.Core.List.{List, [], _∷_}
@@ -19,7 +19,7 @@ use Rattle.read_tokens.specs.declared.phase.Phase.the-variants as phase
 use Rattle.read_tokens.specs.declared.phase.PhaseRead.{PhaseRead}
 use Rattle.read_tokens.specs.declared.phase.PhaseRead.the-variants as phase-read
 
--- ── document 01's numbers of strands and phases ──
+-- ── the numbers of strands and phases (RULES 4.3, 4.4) ──
 
 -- strand 0 to 3 for `.` `+` `-` `?`
 unfoldable pub strand-number : Strand → ℕ
@@ -35,7 +35,7 @@ phase-number phase.One = 1
 phase-number phase.Two = 2
 phase-number phase.None = 3
 
--- ── document 01's number of each refusal, and 0 where there is none ──
+-- ── the number of each refusal (RULES 10), and 0 where there is none ──
 
 abbrev pub position-refusal : PositionRead → ℕ
 position-refusal (position-read.Is n) = 0
@@ -51,7 +51,7 @@ phase-refusal (phase-read.Refused n) = n
 
 -- ── a column's text, judged raw ──
 
--- start and end: a position, else 2
+-- GFF3, Columns 4 and 5, start and end: a position, else 2
 abbrev pub position-by : Number → PositionRead
 position-by (Value n) = position-read.Is n
 position-by Invalid = position-read.Refused 2
@@ -59,7 +59,7 @@ position-by Invalid = position-read.Refused 2
 unfoldable pub position-of : List ℕ → PositionRead
 position-of s = position-by (position s)
 
--- `.` `+` `-` `?`, else 3
+-- GFF3, Column 7, strand: `.` `+` `-` `?`, else 3
 abbrev pub strand-of-byte : ℕ → StrandRead
 strand-of-byte x =
     cond (eqb x dot) (strand-read.Is strand.None)
@@ -75,7 +75,7 @@ strand-of (x ∷ y ∷ s) = strand-read.Refused 3
 abbrev pub strand-byte : ℕ → ℕ
 strand-byte n = cond (eqb n 0) dot (cond (eqb n 1) plus (cond (eqb n 2) minus question))
 
--- `.` `0` `1` `2`, else 4
+-- GFF3, Column 8, phase: `.` `0` `1` `2`, else 4
 abbrev pub phase-of-byte : ℕ → PhaseRead
 phase-of-byte x =
     cond (eqb x dot) (phase-read.Is phase.None)

@@ -2,7 +2,7 @@
 ghost use mathlib.Core.Path.{_≡_};
 ghost use Rattle.read_tokens.specs.Tokens.{phase-number, phase-of, phase-byte};
 
-// Document 01's numbers 0 to 3, in this order.
+// By number 0 to 3, in this order (RULES 4.4).
 pub enum Phase {
     Zero,
     One,
@@ -33,7 +33,7 @@ pub fn phase_of(text: &[u8]) -> PhaseRead
     }
 }
 
-// Document 01's number of a phase: 3 for none.
+// The number of a phase (RULES 4.4): 3 for none.
 pub fn phase_number(phase: Phase) -> u32
     ensures { λ r. ⌜ r ≡ phase-number phase ⌝ }
 {

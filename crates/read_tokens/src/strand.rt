@@ -2,7 +2,7 @@
 ghost use mathlib.Core.Path.{_≡_};
 ghost use Rattle.read_tokens.specs.Tokens.{strand-number, strand-of, strand-byte};
 
-// Document 01's numbers 0 to 3, in this order.
+// By number 0 to 3, in this order (RULES 4.3).
 pub enum Strand {
     // `.`
     None,
@@ -36,7 +36,7 @@ pub fn strand_of(text: &[u8]) -> StrandRead
     }
 }
 
-// Document 01's number of a strand.
+// The number of a strand (RULES 4.3).
 pub fn strand_number(strand: Strand) -> u32
     ensures { λ r. ⌜ r ≡ strand-number strand ⌝ }
 {

@@ -8,7 +8,6 @@ use mathlib.Core.Bool.{Bool, true, false, cond}
 use mathlib.Core.List.{List, [], _∷_}
 use lib.ListN.{length, take, drop, drop-of-length-le}
 use lib.Seq.{take-all}
-use borrow.Author.Tests.{eqb-false}
 use Rattle.base_lists.specs.Bytes.{comma}
 use Rattle.base_lists.specs.Steps.{and-on}
 use Rattle.base_lists.proofs.OrderLaws.{le-or-lt}
@@ -37,8 +36,7 @@ pub record Hands (s : List ℕ) (c : ValueCursor) (place : Place) (next : ValueC
   pub start : place .start ≡ min (c .at) (length s)
   pub end : place .end ≡ place .start + length (text-at place s)
   pub inside : place .end ≤ length s
-  pub behind : next .at ≡ place .end + 1
-  pub more : next .out ≡ false → next .at ≤ length s
+  pub behind : next .at ≡ min (place .end + 1) (length s)
 
 -- what an answer says of them
 abbrev pub Meets : List ℕ → ValueCursor → NextValue → Type 0
@@ -46,7 +44,7 @@ Meets s c Done = left s c ≡ []
 Meets s c (Is place next) = Hands s c place next
 
 -- a cursor beyond the text leaves what one at its end does
-drop-clipped : (at : ℕ) (s : List ℕ) → drop at s ≡ drop (min at (length s)) s
+pub drop-clipped : (at : ℕ) (s : List ℕ) → drop at s ≡ drop (min at (length s)) s
 drop-clipped at s = go (le-or-lt at (length s))
   where
     go : (at ≤ length s) ⊎ (length s < at) → drop at s ≡ drop (min at (length s)) s
@@ -65,12 +63,11 @@ value-meets s c = go (c .out) refl
         let k = found comma at s in
         let within : k ≤ length s = seek-le (is comma) at s in
         record {
-          first = rw (e, drop-clipped (c .at) s) (pieces-next comma at s);
+          first = rw (e, drop-clipped (c .at) s, ← drop-clipped (k + 1) s) (pieces-next comma at s);
           start = refl;
           end = omega (arith, length-part at k s within, seek-ge (is comma) at s (omega arith));
           inside = within;
           behind = refl;
-          more = λ p. omega (arith, eqb-false k (length s) p);
         }
 
 -- what a step answered, as its caller has it

@@ -1,5 +1,5 @@
--- A text cut at each separator, and pieces joined by it: document 01, "a value splits at each `,`; with none it is one string".
--- Assumes nothing: these are definitions.
+-- A text cut at each separator, and pieces joined by it; with no separator it is one piece. So a value is cut at each `,` (RULES 5.4;
+-- GFF3, Column 9, attributes). Assumes nothing: these are definitions.
 use Prim.Native.Nat.{ℕ}
 use mathlib.Core.Bool.{Bool, true, false, cond}
 use mathlib.Core.List.{List, [], _∷_, _++_}

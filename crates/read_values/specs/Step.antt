@@ -1,5 +1,5 @@
--- A step over the values of an attribute, as a function of the value's text and the cursor alone; and steps in a row. Assumes nothing: these
--- are definitions.
+-- A step over the values of an attribute (RULES 5.4), as a function of the value's text and the cursor alone; and steps in a row. Assumes
+-- nothing: these are definitions.
 use Prim.Native.Nat.{ℕ, _+_, min}
 use mathlib.Core.Bool.{false, cond}
 use mathlib.Core.List.{List}
@@ -14,9 +14,10 @@ use Rattle.read_values.specs.declared.ValueCursor.{ValueCursor}
 use Rattle.read_values.specs.declared.NextValue.{NextValue}
 use Rattle.read_values.specs.declared.NextValue.the-variants as next
 
--- the value that begins at a cursor and ends at e: it is the last where e is the text's end
+-- the value that begins at a cursor and ends at e: the next cursor is one past its `,`; where e is the text's end the value is the last, and
+-- the cursor stays at the end
 abbrev pub value-to : List ℕ → ℕ → ℕ → NextValue
-value-to s at e = next.Is (record { start = at; end = e }) (record { at = e + 1; out = eqb e (length s) })
+value-to s at e = next.Is (record { start = at; end = e }) (record { at = min (e + 1) (length s); out = eqb e (length s) })
 
 -- a new cursor: at the start, the last value not out
 abbrev pub fresh : ValueCursor

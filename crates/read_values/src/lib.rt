@@ -40,7 +40,7 @@ pub fn next_value(value: &[u8], cursor: ValueCursor) -> NextValue
     let end = base_scan::find(value, at, b',');
     let place = Place { start: at, end };
     let next = ValueCursor {
-        at: end + 1,
+        at: base_numbers::least(end + 1, value.len()),
         out: end == value.len(),
     };
     NextValue::Is(place, next)

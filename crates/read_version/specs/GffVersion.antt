@@ -1,5 +1,5 @@
--- The value of `gff-version`, document 01: at most three parts cut at the first two `.`; each part is an optional `+`, then one or more
--- digits, at most 4294967295. Refusals, from left to right: 6, the text is empty; 7, 8, 9, major, minor, patch not valid.
+-- The value of `gff-version`, GFF3, Directives; RULES 7.2: at most three parts cut at the first two `.`; each part is an optional `+`, then
+-- one or more digits, at most 4294967295. Refusals, from left to right: 6, the text is empty; 7, 8, 9, major, minor, patch not valid.
 -- Assumes nothing: these are definitions.
 use Prim.Native.Nat.{ℕ, suc}
 use mathlib.Core.Bool.{Bool, true, false, cond}
@@ -14,7 +14,7 @@ use Rattle.read_version.specs.declared.Part.the-variants as part
 use Rattle.read_version.specs.declared.VersionRead.{VersionRead}
 use Rattle.read_version.specs.declared.VersionRead.the-variants.{Is, Refused}
 
--- document 01's number of a refusal, and 0 where there is none
+-- the number of a refusal (RULES 10), and 0 where there is none
 abbrev pub version-refusal : VersionRead → ℕ
 version-refusal (Is v) = 0
 version-refusal (Refused n) = n

@@ -29,7 +29,7 @@ bytes =
     (3 ∷ zeros 3) ++ ascii "sq0" ++ zeros 12
     ++ (1 ∷ zeros 3) ++ (1 ∷ zeros 3) ++ ascii "a" ++ (2 ∷ zeros 3) ++ (1 ∷ zeros 3) ++ ascii "1" ++ zeros 4
 
--- document 01: twenty zero bytes are the smallest sheet; refused are one byte less, one more, the empty sheet, an attribute with a value
+-- RULES 9.1: twenty zero bytes are the smallest sheet; refused are one byte less, one more, the empty sheet, an attribute with a value
 -- count of 0, a count larger than the rest. A count is read low byte first, also at the largest, and not where it is cut off
 samples :
     (sheet-read (zeros 20) ≡ some empty)

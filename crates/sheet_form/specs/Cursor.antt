@@ -10,7 +10,7 @@ use Rattle.sheet_form.specs.declared.read.CountRead.the-variants.{Is, Ma
 use Rattle.sheet_form.specs.declared.read.SectionRead.{SectionRead}
 use Rattle.sheet_form.specs.declared.read.SectionRead.the-variants as section
 
--- ── document 01's number of each refusal, and 0 where there is none ──
+-- ── the number of each refusal (RULES 10), and 0 where there is none ──
 
 abbrev pub count-refusal : CountRead → ℕ
 count-refusal (Is n next) = 0

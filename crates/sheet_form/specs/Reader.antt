@@ -7,7 +7,7 @@ pub data Taken (A : Type 0) : Type 0 where
   no-form : Taken A
   took : A → List ℕ → Taken A
 
--- document 01's number of a text that is not of the form, and 0 for one that is
+-- the refusal of a text that is not of the form (RULES 10), and 0 for one that is
 abbrev pub form-refusal : {A : Type 0} → Taken A → ℕ
 form-refusal no-form = 23
 form-refusal (took a s) = 0
@@ -32,7 +32,7 @@ abbrev pub byte : Reader ℕ
 byte [] = no-form
 byte (x ∷ s) = took x s
 
--- document 01, "The field sheet": a count is "four bytes, low byte first"
+-- RULES 9.1: a count is four bytes, low byte first
 unfoldable pub read-count : Reader ℕ
 read-count = do
   a ← byte

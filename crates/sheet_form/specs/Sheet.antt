@@ -1,5 +1,5 @@
--- The field sheet, document 01: "sections in a fixed order, each after its count: column 1, source, type, score (count 0: missing),
--- attributes". Assumes nothing: these are definitions.
+-- The field sheet, RULES 9.1: sections in a fixed order, each after its count: column 1, source, type, score (count 0: missing),
+-- attributes. Assumes nothing: these are definitions.
 use mathlib.Core.Bool.{Bool, true, false}
 use mathlib.Core.List.{List, [], _∷_, _++_, flatMap}
 use mathlib.Core.Option.{Option, none, some}

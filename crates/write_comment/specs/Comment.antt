@@ -1,4 +1,4 @@
--- A comment as it is written, document 01, "Writing" and "Refusal numbers": `#`, text. Assumes nothing: these are definitions.
+-- A comment as it is written, GFF3, Description of the Format; RULES 8.4, 11.5: `#`, text. Assumes nothing: these are definitions.
 use Prim.Native.Nat.{ℕ}
 use mathlib.Core.Bool.{Bool, false, _||_}
 use mathlib.Core.List.{List, [], _∷_}

@@ -1,4 +1,4 @@
--- Numbers as they are written, document 01, "Writing": decimal without leading zeros. Assumes nothing: these are definitions.
+-- Numbers as they are written, RULES 8.1: decimal without leading zeros. Assumes nothing: these are definitions.
 use mathlib.Core.Bool.{cond}
 use mathlib.Core.List.{List, [], _∷_, _++_}
 use Prim.Native.Nat.{ℕ, zero, suc, _+_, _/_, _%_}

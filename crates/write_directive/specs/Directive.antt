@@ -1,5 +1,5 @@
--- A directive as it is written, document 01, "Writing" and "Refusal numbers": `##`, key, then a space and the value if there is one.
--- Assumes nothing: these are definitions.
+-- A directive as it is written: GFF3, Directives; RULES 8.3, 11.4: `##`, key, then a space and the value if there is one. Assumes nothing:
+-- these are definitions.
 use Prim.Native.Nat.{ℕ}
 use mathlib.Core.Bool.{false}
 use mathlib.Core.List.{List, [], _∷_, _++_}

@@ -1,4 +1,4 @@
--- The value of `genome-build` as it is written: source, name. Assumes nothing: these are definitions.
+-- The value of `genome-build` as it is written, GFF3, Directives; RULES 7.4: source, name. Assumes nothing: these are definitions.
 use Prim.Native.Nat.{ℕ}
 use mathlib.Core.Bool.{false, not, _||_}
 use mathlib.Core.List.{List, [], _∷_, _++_}

@@ -1,4 +1,4 @@
--- Why a directive is refused, document 01, "Refusal numbers". Assumes nothing: these are definitions.
+-- Why a directive is refused, RULES 8.3. Assumes nothing: these are definitions.
 use Prim.Native.Nat.{ℕ}
 use mathlib.Core.Bool.{false, _||_}
 use mathlib.Core.List.{List, [], _∷_}

@@ -1,5 +1,5 @@
--- What it means that a value reads back, document 01, "The field sheet": its text, and a typed value "from its own reader". Assumes
--- nothing: these are definitions.
+-- What it means that a value reads back, RULES 9.4: its text, and a typed value from its own parser. Assumes nothing: these are
+-- definitions.
 use Prim.Native.Nat.{ℕ, _+_, _≤_}
 use mathlib.Core.Path.{_≡_}
 use mathlib.Core.Option.{Option, none, some}

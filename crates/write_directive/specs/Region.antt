@@ -1,4 +1,4 @@
--- The value of `sequence-region` as it is written: name, start, end. Assumes nothing: these are definitions.
+-- The value of `sequence-region` as it is written, GFF3, Directives; RULES 7.3: name, start, end. Assumes nothing: these are definitions.
 use Prim.Native.Nat.{ℕ}
 use mathlib.Core.Bool.{false, not, _||_}
 use mathlib.Core.List.{List, [], _∷_, _++_}

@@ -1,5 +1,5 @@
--- The value of `gff-version` as it is written: major, and minor and patch if they are there, with `.` between them. Assumes nothing:
--- these are definitions.
+-- The value of `gff-version` as it is written, GFF3, Directives; RULES 7.2: major, and minor and patch if they are there, with `.` between
+-- them. Assumes nothing: these are definitions.
 use Prim.Native.Nat.{ℕ}
 use mathlib.Core.Bool.{Bool, true, false, not, _&&_}
 use mathlib.Core.List.{List, [], _∷_, _++_}

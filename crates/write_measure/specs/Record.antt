@@ -1,4 +1,4 @@
--- A record as it is written, document 01, "Writing", "The field sheet" and "Refusal numbers". Assumes nothing: these are definitions.
+-- A record as it is written: GFF3, Columns 1 to 9; RULES 8.2, 11.3. Assumes nothing: these are definitions.
 use Prim.Native.Nat.{ℕ}
 use mathlib.Core.Bool.{Bool, false, not, _&&_, _||_}
 use mathlib.Core.List.{List, [], _∷_}
@@ -37,7 +37,7 @@ bad score = not (eqb (length score) 0 || is-score score)
 abbrev pub bad-score : Sheet → Bool
 bad-score s = bad (s .score)
 
--- the type is exactly `CDS`
+-- GFF3, Column 8, phase (required for every CDS): the type is exactly `CDS`
 abbrev pub is-cds : Sheet → Bool
 is-cds s = same (s .type) (ascii "CDS")
 

@@ -2,8 +2,8 @@
 //
 // The record is its sheet and the numbers beside it. Every refusal of the writer is answered but 22.
 //
-// Proved: the answer is that of specs/, refusals in document 01's order. Each byte of the sheet is read a fixed number of times. Assumes
-// nothing.
+// Proved: the answer is that of specs/, refusals in the order of RULES 11.3. Each byte of the sheet is read a fixed number of times.
+// Assumes nothing.
 mod length;
 mod measuring;
 mod reasons;

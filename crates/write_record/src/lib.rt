@@ -3,7 +3,7 @@
 //
 // The caller adds the line feed.
 //
-// Proved: the answer and the whole buffer are those that the definitions of `write_measure` give, refusals in document 01's order; a
+// Proved: the answer and the whole buffer are those that the definitions of `write_measure` give, refusals in the order of RULES 11.3; a
 // refused record changes no byte. The record is judged and measured before its first byte is laid; each byte of the sheet is read a fixed
 // number of times. Assumes nothing.
 mod lay;

@@ -1,4 +1,4 @@
--- What is asked of a text before it is written, document 01, "Refusal numbers". Assumes nothing: these are definitions.
+-- What is asked of a text before it is written, RULES 8.3, 8.4, 12. Assumes nothing: these are definitions.
 use Prim.Native.Nat.{ℕ}
 use mathlib.Core.Bool.{Bool, false, _||_}
 use mathlib.Core.List.{List, [], _∷_}

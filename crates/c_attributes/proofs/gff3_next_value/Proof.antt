@@ -1,4 +1,4 @@
--- `gff3_next_value` answers `c-value` of the step over the values. Assumes nothing.
+-- `gff3_next_value` answers `c-next-value`. Assumes nothing.
 use borrow.Author.Needs.{needs}
 use Rattle.c_attributes.proofs.BitLaws.{as-number}
 use Rattle.c_attributes.proofs.gff3_next_value.Statement.{statement}
@@ -12,5 +12,6 @@ gff3-next-value-spec =
     (λ c. search needs)
     (λ c. search needs)
     (λ c. search needs)
+    (λ c κs. tt)
     (λ c. let d = c .before .before in rw (← d .before .before .next-value .ensures, d .place .given .1, as-number))
-    (λ c. rw (← c .before .before .next-value .ensures, c .enum-told .given .1)))
+    (λ c. let d = c .before in rw (← d .before .before .next-value .ensures, d .enum-told .given .1, ← c .least .ensures)))

@@ -9,4 +9,4 @@ set-of-spec =
     (tie.spec
     (λ c. rw (c .match .keys1))
     (λ c. rw (c .match .keys2))
-    (λ c. let r = c .match .rest in rw (ne-eqb _ 1 (r .0 .1), ne-eqb _ 2 (r .1))))
+    (λ c. let r = c .match .rest in rw (ne-eqb _ 2 (r .0 .1), ne-eqb _ 3 (r .1))))

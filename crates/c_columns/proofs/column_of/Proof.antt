@@ -15,13 +15,15 @@ column-of-spec =
     (λ c. rw (c .match .keys6))
     (λ c. rw (c .match .keys7))
     (λ c. rw (c .match .keys8))
+    (λ c. rw (c .match .keys9))
     (λ c. let r = c .match .rest in rw (
-      ne-eqb _ 1 (r .0 .0 .0 .0 .0 .0 .0 .1),
-      ne-eqb _ 2 (r .0 .0 .0 .0 .0 .0 .1),
-      ne-eqb _ 3 (r .0 .0 .0 .0 .0 .1),
-      ne-eqb _ 4 (r .0 .0 .0 .0 .1),
-      ne-eqb _ 5 (r .0 .0 .0 .1),
-      ne-eqb _ 6 (r .0 .0 .1),
-      ne-eqb _ 7 (r .0 .1),
-      ne-eqb _ 8 (r .1),
+      ne-eqb _ 1 (r .0 .0 .0 .0 .0 .0 .0 .0 .1),
+      ne-eqb _ 2 (r .0 .0 .0 .0 .0 .0 .0 .1),
+      ne-eqb _ 3 (r .0 .0 .0 .0 .0 .0 .1),
+      ne-eqb _ 4 (r .0 .0 .0 .0 .0 .1),
+      ne-eqb _ 5 (r .0 .0 .0 .0 .1),
+      ne-eqb _ 6 (r .0 .0 .0 .1),
+      ne-eqb _ 7 (r .0 .0 .1),
+      ne-eqb _ 8 (r .0 .1),
+      ne-eqb _ 9 (r .1),
     )))

@@ -1,4 +1,4 @@
--- `gff3_next_line` answers `c-line` of the step. Assumes nothing.
+-- `gff3_next_line` answers `c-next-line`. Assumes nothing.
 use borrow.Author.Needs.{needs}
 use Rattle.c_lines.proofs.gff3_next_line.Statement.{statement}
 use Rattle.c_lines.proofs.gff3_next_line.Tie as tie
@@ -10,5 +10,6 @@ gff3-next-line-spec =
     (λ c κs. tt)
     (λ c. search needs)
     (λ c. search needs)
+    (λ c κs. tt)
     (λ c. let d = c .before in rw (← d .before .before .next-line .ensures, d .place .given .1))
-    (λ c. rw (← c .before .before .next-line .ensures, c .enum-told .given .1)))
+    (λ c. let d = c .before in rw (← d .before .before .next-line .ensures, d .enum-told .given .1, ← c .least .ensures)))

@@ -9,11 +9,10 @@ use Rattle.program_rewrite.proofs.rewrite.Statement.{statement}
 use Rattle.program_rewrite.proofs.rewrite.Tie as tie
 
 abbrev Inv-loop : tie.InvT-loop
-Inv-loop text sheet₀ out₀ cursor₀ message sheet out cursor =
-    (length sheet ≡ length sheet₀) × (length out ≡ length out₀) × (39 ≡ length message)
+Inv-loop text sheet₀ out₀ cursor₀ sheet out cursor = (length sheet ≡ length sheet₀) × (length out ≡ length out₀)
 
 abbrev μ-loop : tie.MeasureT-loop
-μ-loop text sheet₀ out₀ cursor₀ message sheet out cursor = length text - cursor .at
+μ-loop text sheet₀ out₀ cursor₀ sheet out cursor = length text - cursor .at
 
 loop-less : tie.Need-loop-less Inv-loop μ-loop
 loop-less c =
@@ -36,8 +35,6 @@ rewrite-spec =
     (λ c. search needs)
     (λ c κs. tt)
     (λ c κs. search needs)
-    (λ c. search needs)
-    (λ c κs. tt)
     (λ c. search needs)
     (λ c. search needs)
     (λ c. search needs)

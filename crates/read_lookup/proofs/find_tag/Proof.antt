@@ -1,5 +1,5 @@
 -- `find_tag`: the lookup over the whole column is the one from the cursor on. Assumes nothing.
-use Prim.Native.Nat.{_+_, _-_, _≤_}
+use Prim.Native.Nat.{_-_, _≤_}
 use native.Mathlib.Omega.{arith}
 use borrow.Author.Needs.{needs}
 use mathlib.Core.Path.{_≡_, refl}
@@ -12,10 +12,10 @@ use Rattle.read_lookup.proofs.find_tag.Statement.{statement}
 use Rattle.read_lookup.proofs.find_tag.Tie as tie
 
 abbrev Inv-loop : tie.InvT-loop
-Inv-loop column tag at₀ at = (at ≤ length column + 1) × (find-tag column tag ≡ find-in tag at (walk-from column at))
+Inv-loop column tag at₀ at = (at ≤ length column) × (find-tag column tag ≡ find-in tag at (walk-from column at))
 
 abbrev μ-loop : tie.MeasureT-loop
-μ-loop column tag at₀ at = length column + 1 - at
+μ-loop column tag at₀ at = length column - at
 
 loop-holds : tie.Need-loop-holds Inv-loop μ-loop
 unfolding find-tag

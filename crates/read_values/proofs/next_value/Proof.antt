@@ -10,7 +10,9 @@ returns c = rw (c .if1 .taken)
 
 returns-2 : tie.Need-returns-2
 unfolding next-value
-returns-2 c = rw (c .before .before .if1 .left, ← c .before .least .ensures, ← c .find .ensures .0)
+returns-2 c =
+    let d = c .before in
+    rw (d .before .before .if1 .left, ← d .before .least .ensures, ← d .find .ensures .0, ← c .least2 .ensures)
 
 pub next-value-spec : {M : Type 1} → statement M
-next-value-spec = tie.close (tie.spec returns (λ c κs. tt) (λ c κs. tt) (λ c. search needs) returns-2)
+next-value-spec = tie.close (tie.spec returns (λ c κs. tt) (λ c κs. tt) (λ c. search needs) (λ c κs. tt) returns-2)

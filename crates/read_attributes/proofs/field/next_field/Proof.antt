@@ -28,15 +28,17 @@ returns-3 c =
 returns-4 : tie.Need-returns-4
 unfolding next-field
 returns-4 c =
-    let f = c .before .before in
+    let v = c .before in
+    let f = v .before .before in
     let e = f .before in
     rw (
       ← e .before .before .is-dot .ensures,
       e .before .if1 .left,
       lt-leb _ _ (e .if2 .left),
       ← f .find .ensures .0,
-      ne-eqb _ _ (c .before .if3 .left),
-      ← c .find2 .ensures .0,
+      ne-eqb _ _ (v .before .if3 .left),
+      ← v .find2 .ensures .0,
+      ← c .least .ensures,
     )
 
 pub next-field-spec : {M : Type 1} → statement M
@@ -51,4 +53,5 @@ next-field-spec =
     (λ c. search needs)
     (λ c κs. tt)
     (λ c. search needs)
+    (λ c κs. tt)
     returns-4)

@@ -1,4 +1,4 @@
--- `attributes_size`: what is counted, and what the walk meets from the cursor on, are the whole. The sum stays below six bytes for each
+-- `attributes_size`: what is counted, and what the walk meets from the cursor on, are the whole. The sum is at most twelve bytes for each
 -- byte that the walk has passed. Assumes nothing.
 use Prim.Native.Nat.{_+_, _-_, _*_, _≤_}
 use native.Mathlib.Omega.{arith}
@@ -14,13 +14,13 @@ use Rattle.read_judge.proofs.judging.attributes_size.Tie as tie
 
 abbrev Inv-loop : tie.InvT-loop
 Inv-loop column count₀ n₀ at₀ count n at =
-    (at ≤ length column + 1)
+    (at ≤ length column)
     × (count ≤ at)
-    × (n ≤ 6 * at)
+    × (n ≤ 12 * at)
     × (sized (attributes (walk column)) ≡ onto count n (attributes (walk-from column at)))
 
 abbrev μ-loop : tie.MeasureT-loop
-μ-loop column count₀ n₀ at₀ count n at = length column + 1 - at
+μ-loop column count₀ n₀ at₀ count n at = length column - at
 
 -- the turn of the loop
 abbrev turn : tie.After-field Inv-loop μ-loop → tie.At-loop Inv-loop μ-loop
@@ -35,11 +35,11 @@ hands : (c : tie.After-field Inv-loop μ-loop)
     → Hands (turn c .before .before .args .column .now) (turn c .loop .at) (c .field .given .0 .0)
 hands c = meets _ _ (c .before .before .next-field .ensures) (c .field .given .1)
 
--- the bytes that it takes, with its `=` and its `;`
+-- the bytes that it takes, with its `=`
 passed : (c : tie.After-text2 Inv-loop μ-loop)
     → let f = field-of (c .before .before) in
-    (turn f .loop .at + length (c .before .text .result .now) + length (c .text2 .result .now) + 2 ≡ f .field .given .0 .0 .next)
-    × (f .field .given .0 .0 .next ≤ length (turn f .before .before .args .column .now) + 1)
+    (turn f .loop .at + length (c .before .text .result .now) + length (c .text2 .result .now) + 1 ≤ f .field .given .0 .0 .next)
+    × (f .field .given .0 .0 .next ≤ length (turn f .before .before .args .column .now))
 passed c =
     let h = hands (field-of (c .before .before)) in
     let t = ap length (c .before .text .ensures) in

@@ -1,5 +1,5 @@
 -- `lay_attributes`: what is left to lay are the attributes that the walk meets from the cursor on. Assumes nothing.
-use Prim.Native.Nat.{_+_, _-_, _≤_}
+use Prim.Native.Nat.{_-_, _≤_}
 use native.Mathlib.Omega.{arith}
 use borrow.Author.Needs.{needs}
 use mathlib.Core.Path.{_≡_, sym, _∙_}
@@ -20,7 +20,7 @@ Inv-loop column out₀ at to₀ from₀ out to from =
     × Left (rest (walk column)) out₀ at (rest (walk-from column from)) out to
 
 abbrev μ-loop : tie.MeasureT-loop
-μ-loop column out₀ at to₀ from₀ out to from = length column + 1 - from
+μ-loop column out₀ at to₀ from₀ out to from = length column - from
 
 loop-holds : tie.Need-loop-holds Inv-loop μ-loop
 loop-holds c =

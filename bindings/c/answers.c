@@ -1,0 +1,192 @@
+/* Calls every function through the header, and holds what it answers to the rules. It is C and C++ alike, and tools/bindings builds it as
+ * both. */
+#include "gff3_lines.h"
+
+#include <stdio.h>
+#include <string.h>
+
+static unsigned failed = 0;
+
+static void hold(int holds, const char *fact, int line)
+{
+    if (!holds) {
+        printf("answers.c:%d: does not hold: %s\n", line, fact);
+        failed++;
+    }
+}
+
+#define HOLD(fact) hold((fact), #fact, __LINE__)
+
+/* A text as a call takes it, and a place or an output as a text. */
+#define TEXT(s) (const uint8_t *)(s), sizeof(s) - 1
+#define IS(bytes, count, s) ((count) == sizeof(s) - 1 && memcmp((bytes), (s), sizeof(s) - 1) == 0)
+
+#define RECORD "sq%200\tlab\tCDS\t8\t13\t-1e3\t-\t2\tID=a%2Cb;c=1,2"
+
+static uint8_t out[256];
+static uint8_t sheet[256];
+
+static void lines(void)
+{
+    const gff3_line line = gff3_next_line(TEXT("a\r\nb"), 0);
+    const gff3_line last = gff3_next_line(TEXT("a\r\nb"), line.next);
+    const gff3_line done = gff3_next_line(TEXT("a\r\nb"), last.next);
+    const gff3_line beyond = gff3_next_line(TEXT("a\r\nb"), SIZE_MAX);
+    const gff3_line none = gff3_next_line(NULL, 0, 0);
+
+    HOLD(line.done == 0 && line.start == 0 && line.end == 1 && line.next == 3);
+    HOLD(last.done == 0 && last.start == 3 && last.end == 4 && last.next == 4);
+    HOLD(done.done == 1 && done.start == 0 && done.end == 0 && done.next == 4);
+    HOLD(beyond.done == 1 && beyond.start == 0 && beyond.end == 0 && beyond.next == 4);
+    HOLD(none.done == 1 && none.next == 0);
+
+    HOLD(gff3_kind(TEXT("##a b")) == GFF3_KIND_DIRECTIVE);
+    HOLD(gff3_kind(TEXT("#a")) == GFF3_KIND_COMMENT);
+    HOLD(gff3_kind(TEXT("")) == GFF3_KIND_RECORD);
+
+    const gff3_comment_text comment = gff3_comment(TEXT("#a"));
+    const gff3_directive_text directive = gff3_directive(TEXT("##a  b"));
+    HOLD(comment.is == 1 && comment.start == 1 && comment.end == 2);
+    HOLD(directive.is == 1 && directive.key_start == 2 && directive.key_end == 3);
+    HOLD(directive.has_value == 1 && directive.value_start == 4 && directive.value_end == 6);
+}
+
+static void columns(void)
+{
+    const gff3_indexed indexed = gff3_index(TEXT(RECORD));
+    const gff3_bounds bounds = indexed.bounds;
+    HOLD(indexed.refused == 0 && bounds.reference_sequence_name_end == 7);
+    HOLD(gff3_index(TEXT("a\tb")).refused == GFF3_REFUSED_COLUMNS);
+
+    const gff3_place type = gff3_column(TEXT(RECORD), bounds, GFF3_COLUMN_TYPE);
+    HOLD(type.refused == 0 && IS(&RECORD[type.start], type.end - type.start, "CDS"));
+    HOLD(gff3_column(TEXT(RECORD), bounds, 0).refused == GFF3_REFUSED_COLUMNS);
+    HOLD(gff3_column(TEXT(RECORD), bounds, 10).refused == GFF3_REFUSED_COLUMNS);
+    HOLD(gff3_column(TEXT(RECORD "\t"), bounds, GFF3_COLUMN_TYPE).refused == 0);
+    HOLD(gff3_column(TEXT("a" RECORD), bounds, GFF3_COLUMN_TYPE).refused == GFF3_REFUSED_COLUMNS);
+
+    HOLD(gff3_start(TEXT(RECORD), bounds).value == 8);
+    HOLD(gff3_end(TEXT(RECORD), bounds).value == 13);
+    HOLD(gff3_strand(TEXT(RECORD), bounds).value == GFF3_STRAND_REVERSE);
+    HOLD(gff3_phase(TEXT(RECORD), bounds).value == 2);
+    const gff3_score_text score = gff3_score(TEXT(RECORD), bounds);
+    HOLD(score.refused == 0 && score.missing == 0 && IS(&RECORD[score.start], score.end - score.start, "-1e3"));
+
+    const gff3_written name = gff3_text(TEXT(RECORD), bounds, GFF3_COLUMN_REFERENCE_SEQUENCE_NAME, out, sizeof out);
+    HOLD(name.refused == 0 && IS(out, name.length, "sq 0"));
+    HOLD(gff3_text(TEXT(RECORD), bounds, 0, out, sizeof out).refused == GFF3_REFUSED_COLUMNS);
+    HOLD(gff3_text(TEXT(RECORD), bounds, GFF3_COLUMN_START, out, sizeof out).refused == GFF3_REFUSED_COLUMNS);
+    const gff3_written room = gff3_text(TEXT(RECORD), bounds, GFF3_COLUMN_REFERENCE_SEQUENCE_NAME, out, 3);
+    HOLD(room.refused == GFF3_REFUSED_ROOM && room.length == 4);
+}
+
+static void attributes(void)
+{
+    const gff3_field field = gff3_next_field(TEXT("a=1;b=2"), 0);
+    const gff3_field last = gff3_next_field(TEXT("a=1;b=2"), field.next);
+    const gff3_field done = gff3_next_field(TEXT("a=1;b=2"), last.next);
+    const gff3_field beyond = gff3_next_field(TEXT("a=1;b=2"), SIZE_MAX);
+    const gff3_field refused = gff3_next_field(TEXT("a=1;b"), 4);
+    HOLD(field.refused == 0 && field.done == 0 && field.tag_start == 0 && field.tag_end == 1);
+    HOLD(field.value_start == 2 && field.value_end == 3 && field.next == 4);
+    HOLD(last.tag_start == 4 && last.value_end == 7 && last.next == 7);
+    HOLD(done.refused == 0 && done.done == 1 && done.value_end == 0 && done.next == 7);
+    HOLD(beyond.done == 1 && beyond.next == 7);
+    HOLD(refused.refused == GFF3_REFUSED_ATTRIBUTE && refused.done == 0 && refused.tag_start == 0 && refused.next == 4);
+
+    const gff3_found found = gff3_find_tag(TEXT("a=1;%62=2"), TEXT("b"));
+    HOLD(found.refused == 0 && found.found == 1 && found.start == 8 && found.end == 9);
+    HOLD(gff3_find_tag(TEXT("a=1;b"), TEXT("c")).refused == GFF3_REFUSED_ATTRIBUTE);
+    HOLD(gff3_no_attributes(TEXT(".")) == 1);
+    HOLD(gff3_no_attributes(TEXT("a=1")) == 0);
+}
+
+static void values(void)
+{
+    const gff3_value value = gff3_next_value(TEXT("1,2"), 0, 0);
+    const gff3_value last = gff3_next_value(TEXT("1,2"), value.next, value.out);
+    const gff3_value done = gff3_next_value(TEXT("1,2"), last.next, last.out);
+    const gff3_value beyond = gff3_next_value(TEXT("1,2"), SIZE_MAX, 7);
+    const gff3_value early = gff3_next_value(TEXT("1,2"), 1, 2);
+    const gff3_value empty = gff3_next_value(TEXT("1,"), 2, 0);
+
+    HOLD(value.done == 0 && value.start == 0 && value.end == 1 && value.next == 2 && value.out == 0);
+    HOLD(last.done == 0 && last.start == 2 && last.end == 3 && last.next == 3 && last.out == 1);
+    HOLD(done.done == 1 && done.start == 0 && done.end == 0 && done.next == 3 && done.out == 1);
+    HOLD(beyond.done == 1 && beyond.start == 0 && beyond.end == 0 && beyond.next == 3 && beyond.out == 1);
+    HOLD(early.done == 1 && early.start == 0 && early.end == 0 && early.next == 1 && early.out == 1);
+    HOLD(empty.done == 0 && empty.start == 2 && empty.end == 2 && empty.next == 2 && empty.out == 1);
+}
+
+static void typed_values(void)
+{
+    const gff3_version_value version = gff3_version(TEXT("3.1.26"));
+    const gff3_region_value region = gff3_region(TEXT("sq0 8 13"));
+    const gff3_build_value build = gff3_build(TEXT("NCBI B36"));
+
+    HOLD(version.refused == 0 && version.parts == 3 && version.major == 3 && version.minor == 1 && version.patch == 26);
+    HOLD(gff3_version(TEXT("")).refused == GFF3_REFUSED_EMPTY);
+    HOLD(region.refused == 0 && region.name_start == 0 && region.name_end == 3 && region.start == 8 && region.end == 13);
+    HOLD(gff3_region(TEXT("sq0 8")).refused == GFF3_REFUSED_REGION_END_MISSING);
+    HOLD(build.refused == 0 && build.source_start == 0 && build.source_end == 4 && build.name_start == 5 && build.name_end == 8);
+    HOLD(gff3_build(TEXT("NCBI")).refused == GFF3_REFUSED_BUILD_NAME_MISSING);
+}
+
+static void coding(void)
+{
+    HOLD(IS(out, gff3_decode(TEXT("a%00b%2"), out, sizeof out).length, "a\0b%2"));
+    HOLD(IS(out, gff3_encode(GFF3_SET_NAME, TEXT("a b;"), out, sizeof out).length, "a%20b%3B"));
+    HOLD(IS(out, gff3_encode(GFF3_SET_COLUMN, TEXT("a b;\t"), out, sizeof out).length, "a b;%09"));
+    HOLD(IS(out, gff3_encode(GFF3_SET_ATTRIBUTE, TEXT("a b;"), out, sizeof out).length, "a b%3B"));
+    HOLD(IS(out, gff3_encode(0, TEXT("a b;"), out, sizeof out).length, "a%20b%3B"));
+    HOLD(IS(out, gff3_encode(4, TEXT("a b;"), out, sizeof out).length, "a%20b%3B"));
+    HOLD(gff3_position(TEXT("18446744073709551615")).value == UINT64_MAX);
+    HOLD(gff3_position(TEXT("18446744073709551616")).refused == GFF3_REFUSED_POSITION);
+}
+
+static void records(void)
+{
+    const gff3_unfolded judged = gff3_judge(TEXT(RECORD));
+    const gff3_unfolded record = gff3_unfold(TEXT(RECORD), sheet, sizeof sheet);
+    HOLD(judged.refused == 0 && judged.length == record.length);
+    HOLD(record.refused == 0 && record.start == 8 && record.end == 13 && record.strand == GFF3_STRAND_REVERSE && record.phase == 2);
+
+    const gff3_written line = gff3_write_record(sheet, record.length, 8, 13, record.strand, record.phase, out, sizeof out);
+    HOLD(line.refused == 0 && IS(out, line.length, RECORD));
+    HOLD(gff3_write_record(sheet, record.length, 8, 13, 0, GFF3_PHASE_NONE, out, sizeof out).refused == GFF3_REFUSED_PHASE_MISSING);
+
+    gff3_directive_value value;
+    memset(&value, 0, sizeof value);
+    value.kind = GFF3_VALUE_REGION;
+    value.start = 8;
+    value.end = 13;
+    const gff3_written region = gff3_write_directive(TEXT("sequence-region"), value, TEXT("sq0"), NULL, 0, out, sizeof out);
+    HOLD(region.refused == 0 && IS(out, region.length, "##sequence-region sq0 8 13"));
+    value.kind = 5;
+    const gff3_written none = gff3_write_directive(TEXT("FASTA"), value, NULL, 0, NULL, 0, out, sizeof out);
+    HOLD(none.refused == 0 && IS(out, none.length, "##FASTA"));
+
+    HOLD(IS(out, gff3_write_comment(TEXT("a"), out, sizeof out).length, "#a"));
+    HOLD(gff3_write_comment(TEXT("a\n"), out, sizeof out).refused == GFF3_REFUSED_TEXT);
+}
+
+static void reasons(void)
+{
+    HOLD(strcmp(gff3_reason(0), "not refused") == 0);
+    HOLD(strcmp(gff3_reason(GFF3_REFUSED_SCORE), "not a score") == 0);
+    HOLD(strcmp(gff3_reason(GFF3_REFUSED_TOO_LONG + 1), "unknown refusal") == 0);
+    HOLD(strcmp(gff3_reason(UINT64_MAX), "unknown refusal") == 0);
+}
+
+int main(void)
+{
+    lines();
+    columns();
+    attributes();
+    values();
+    typed_values();
+    coding();
+    records();
+    reasons();
+    return failed == 0 ? 0 : 1;
+}
