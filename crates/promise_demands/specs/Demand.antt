@@ -131,10 +131,10 @@ pub record Demand2 : Type 0 where
 
 -- ── demand 3 ──────────────────────────────────────────────────────────────────────────────────
 
--- "Take any list of records, directives and comments the writer accepted, each line ended by a line feed. Replace any one stretch of that
--- text by other bytes, of any length. Each item whose line, line feed included, lies before the stretch reads back exactly, given room,
--- first and in order; so does each one that lies after it together with the line feed before it, last and in order. With nothing replaced
--- the whole list reads back."
+-- RULES 15.3: "Take any list of records, directives and comments that the writer accepted, each line ended by a line feed. Replace any one
+-- stretch of that text by other bytes, of any length. Each item whose line, line feed included, lies before the stretch reads back exactly,
+-- given room, first and in order; so does each one that lies after it together with the line feed before it, last and in order. With nothing
+-- replaced the whole list reads back."
 
 -- The crate promise_survival says this in symbols, for items of any kind and any way of reading. Here is for which.
 
