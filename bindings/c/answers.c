@@ -51,6 +51,74 @@ static void lines(void)
     HOLD(directive.has_value == 1 && directive.value_start == 4 && directive.value_end == 6);
 }
 
+/* A text, handed in as a part. */
+#define TAKE(state, s) gff3_take_part((state), text_hold, sizeof text_hold, TEXT(s))
+#define END(state) gff3_end_parts((state), text_hold, sizeof text_hold)
+#define IS_STATE(state, h, t) ((state).held == (h) && (state).tail == (t))
+
+static uint8_t text_hold[GFF3_HOLD_LENGTH];
+static const gff3_state fresh = {0, GFF3_TAIL_FITS};
+
+static void parts(void)
+{
+    const gff3_part none = gff3_take_part(fresh, text_hold, sizeof text_hold, NULL, 0);
+    const gff3_part begun = TAKE(fresh, "ab\r");
+    const gff3_part line = TAKE(begun.state, "\nc\n");
+    HOLD(none.refused == 0 && none.has_line == 0 && none.taken == 0 && IS_STATE(none.state, 0, GFF3_TAIL_FITS));
+    HOLD(begun.refused == 0 && begun.has_line == 0 && begun.length == 0 && begun.taken == 3);
+    HOLD(IS_STATE(begun.state, 2, GFF3_TAIL_WAITS));
+    HOLD(line.refused == 0 && line.has_line == 1 && line.taken == 1 && IS(text_hold, line.length, "ab"));
+    HOLD(IS_STATE(line.state, 0, GFF3_TAIL_FITS));
+
+    const gff3_part blank = TAKE(fresh, "\n");
+    HOLD(blank.refused == 0 && blank.has_line == 1 && blank.length == 0 && blank.taken == 1);
+    const gff3_part kept = TAKE(begun.state, "\r\n");
+    HOLD(kept.has_line == 1 && kept.taken == 2 && IS(text_hold, kept.length, "ab\r"));
+    const gff3_part other = TAKE(begun.state, "c");
+    HOLD(IS_STATE(other.state, 4, GFF3_TAIL_FITS) && IS(text_hold, other.state.held, "ab\rc"));
+
+    const gff3_part last = END(begun.state);
+    HOLD(last.refused == 0 && last.has_line == 1 && last.taken == 0 && IS(text_hold, last.length, "ab\r"));
+    HOLD(IS_STATE(last.state, 0, GFF3_TAIL_FITS));
+    const gff3_part done = END(fresh);
+    HOLD(done.refused == 0 && done.has_line == 0 && done.length == 0 && IS_STATE(done.state, 0, GFF3_TAIL_FITS));
+}
+
+static void long_lines(void)
+{
+    const gff3_state full = {GFF3_HOLD_LENGTH, GFF3_TAIL_FITS};
+    const gff3_part fits = TAKE(full, "\r\n");
+    const gff3_part more = TAKE(full, "ab");
+    const gff3_part refused = TAKE(more.state, "c\nd\n");
+    HOLD(fits.refused == 0 && fits.has_line == 1 && fits.length == GFF3_HOLD_LENGTH && fits.taken == 2);
+    HOLD(more.refused == 0 && more.has_line == 0 && more.taken == 2 && IS_STATE(more.state, GFF3_HOLD_LENGTH, GFF3_TAIL_LONG));
+    HOLD(refused.refused == GFF3_REFUSED_LINE_TOO_LONG && refused.has_line == 0 && refused.length == 0 && refused.taken == 2);
+    HOLD(IS_STATE(refused.state, 0, GFF3_TAIL_FITS));
+
+    const gff3_part last = END(more.state);
+    HOLD(last.refused == GFF3_REFUSED_LINE_TOO_LONG && last.has_line == 0 && last.length == 0 && last.taken == 0);
+    HOLD(IS_STATE(last.state, 0, GFF3_TAIL_FITS));
+    HOLD(END(TAKE(full, "\r").state).refused == GFF3_REFUSED_LINE_TOO_LONG);
+    HOLD(END(full).length == GFF3_HOLD_LENGTH);
+
+    const gff3_state unknown = {1, 3};
+    HOLD(TAKE(unknown, "\n").refused == GFF3_REFUSED_LINE_TOO_LONG);
+    HOLD(END(unknown).refused == GFF3_REFUSED_LINE_TOO_LONG);
+}
+
+static void refused_holds(void)
+{
+    const gff3_state beyond = {GFF3_HOLD_LENGTH + 1, 7};
+    const gff3_part taken = TAKE(beyond, "a\n");
+    const gff3_part ended = END(beyond);
+    const gff3_part too_short = gff3_take_part(fresh, text_hold, sizeof text_hold - 1, TEXT("a\n"));
+    HOLD(taken.refused == GFF3_REFUSED_HOLD && taken.has_line == 0 && taken.length == 0 && taken.taken == 0);
+    HOLD(IS_STATE(taken.state, GFF3_HOLD_LENGTH + 1, 7));
+    HOLD(ended.refused == GFF3_REFUSED_HOLD && ended.has_line == 0 && ended.length == 0 && IS_STATE(ended.state, GFF3_HOLD_LENGTH + 1, 7));
+    HOLD(too_short.refused == GFF3_REFUSED_HOLD && too_short.taken == 0 && IS_STATE(too_short.state, 0, GFF3_TAIL_FITS));
+    HOLD(gff3_end_parts(fresh, NULL, 0).refused == GFF3_REFUSED_HOLD);
+}
+
 static void columns(void)
 {
     const gff3_indexed indexed = gff3_index(TEXT(RECORD));
@@ -174,13 +242,18 @@ static void reasons(void)
 {
     HOLD(strcmp(gff3_reason(0), "not refused") == 0);
     HOLD(strcmp(gff3_reason(GFF3_REFUSED_SCORE), "not a score") == 0);
-    HOLD(strcmp(gff3_reason(GFF3_REFUSED_TOO_LONG + 1), "unknown refusal") == 0);
+    HOLD(strcmp(gff3_reason(GFF3_REFUSED_LINE_TOO_LONG), "the line has more than 65,536 bytes") == 0);
+    HOLD(strcmp(gff3_reason(GFF3_REFUSED_HOLD - 1), "unknown refusal") == 0);
+    HOLD(strcmp(gff3_reason(GFF3_REFUSED_HOLD + 1), "unknown refusal") == 0);
     HOLD(strcmp(gff3_reason(UINT64_MAX), "unknown refusal") == 0);
 }
 
 int main(void)
 {
     lines();
+    parts();
+    long_lines();
+    refused_holds();
     columns();
     attributes();
     values();

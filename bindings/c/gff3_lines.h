@@ -1,19 +1,22 @@
 /* GFF3 lines, read and written with proof. docs/RULES.md of the project has the rules (RULES 16: the calls in C), and the crates c_lines
  * to c_write state what each call answers.
  *
- * Every function takes any bytes and numbers, ends, and keeps nothing: there is no state, and any number of threads may call. A pointer
- * may be null where its length is 0. An output buffer may not overlap a text of the same call.
+ * Every function takes any bytes and numbers, ends, and keeps nothing: what one call has to know of the one before it is handed in, and any
+ * number of threads may call. A pointer may be null where its length is 0. An output buffer, or a hold, may not overlap a text of the same
+ * call.
  *
- * Places are offsets into the text that was handed in: from `start`, before `end`; a text is never copied. Where `done` or `missing` is 1,
- * or `is`, `has_value` or `found` is 0, every field behind it is 0, but for a cursor.
+ * Places are offsets into the text that was handed in: from `start`, before `end`; a text is never copied, but for a line that comes in
+ * parts. Where `done` or `missing` is 1, or `is`, `has_value` or `found` is 0, every field behind it is 0, but for a cursor; so is `length`
+ * where `has_line` is 0.
  *
  * A walk over lines, attributes or values goes by a cursor: begin with 0, and hand `next` of each answer to the next call. A cursor
  * beyond its text counts as at its end. `next` is never beyond the text, so `text + next` is a legal pointer. Where a walk is done or
  * refused, `next` is the cursor handed in, or the text's length where that was beyond it, and another call with it answers the same.
  *
- * `refused` is 0, or the number of a refusal, and then every other field is 0, but for `next`, and for `length` with GFF3_REFUSED_ROOM,
- * which is the length needed. Of several refusals, the one that a function's comment names first is given. A refused call changes no
- * byte of its output buffer, and a call that is not refused changes none past the length that it reports.
+ * `refused` is 0, or the number of a refusal, and then every other field is 0, but for `next`, for `taken` and `state` of a text that comes
+ * in parts, and for `length` with GFF3_REFUSED_ROOM, which is the length needed. Of several refusals, the one that a function's comment
+ * names first is given. A refused call changes no byte of its output buffer, and a call that is not refused changes none past the length
+ * that it reports. A hold is no output buffer: it keeps a line that is begun, and a call may change it also where it hands out no line.
  */
 #ifndef GFF3_LINES_H
 #define GFF3_LINES_H
@@ -21,7 +24,7 @@
 #include <stddef.h>
 #include <stdint.h>
 
-#define GFF3_LINES_VERSION "0.2.0"
+#define GFF3_LINES_VERSION "0.3.0"
 
 #ifdef __cplusplus
 extern "C" {
@@ -54,12 +57,17 @@ enum {
     GFF3_REFUSED_VALUE_KEY = 21,            /* a version, a region or a build under another directive's key */
     GFF3_REFUSED_ROOM = 22,                 /* the buffer is too short */
     GFF3_REFUSED_SHEET = 23,                /* not a field sheet */
-    GFF3_REFUSED_TOO_LONG = 24              /* the line or the text is too long */
+    GFF3_REFUSED_TOO_LONG = 24,             /* the line or the text is too long */
+    GFF3_REFUSED_LINE_TOO_LONG = 25,        /* the line has more than 65,536 bytes */
+    GFF3_REFUSED_HOLD = 34                  /* the hold has not 65,536 bytes, or the state says that it holds more */
 };
 
 /* The most bytes of a line to unfold; and of a text to encode, a sheet to write, or a text of a comment or a directive to write. More are
  * refused by GFF3_REFUSED_TOO_LONG. */
 enum { GFF3_MOST_LINE = 4194304, GFF3_MOST_TEXT = 1048576 };
+
+/* The length of a hold, and the most bytes of a line that comes in parts. A line of more is refused by GFF3_REFUSED_LINE_TOO_LONG. */
+enum { GFF3_HOLD_LENGTH = 65536 };
 
 /* ---- in C alone ---- */
 
@@ -104,6 +112,66 @@ typedef struct {
 } gff3_directive_text;
 
 gff3_directive_text gff3_directive(const uint8_t *line, size_t line_len);
+
+/* ---- lines of a text that comes in parts ---- */
+
+/* A text from a pipe or a socket comes in parts of any length. Its lines are those that gff3_next_line finds in the whole text, wherever
+ * the parts are cut, and each is handed out as soon as its line feed has come. One rule is added: a line of more than GFF3_HOLD_LENGTH
+ * bytes, without its line ending, is not handed out but refused, once, when its ending comes. The lines behind it are handed out as ever.
+ *
+ * The caller lends a hold of GFF3_HOLD_LENGTH bytes, whatever is in it, and begins with the state {0, GFF3_TAIL_FITS}. Each later call gets
+ * the state that the last one answered, the hold as that one left it, and the bytes that are not yet taken. When all are taken and no more
+ * come, the end call hands out the last line, if it has no line feed:
+ *
+ *     static uint8_t hold[GFF3_HOLD_LENGTH], part[4096];
+ *     gff3_state state = {0, GFF3_TAIL_FITS};
+ *
+ *     for (size_t len; (len = fill(part, sizeof part)) > 0;) {
+ *         for (size_t at = 0, taken = 1; at < len && taken > 0; at += taken) {
+ *             const gff3_part got = gff3_take_part(state, hold, GFF3_HOLD_LENGTH, part + at, len - at);
+ *             taken = got.taken;
+ *             state = got.state;
+ *             if (got.has_line) {
+ *                 use(hold, got.length);
+ *             } else if (got.refused) {
+ *                 say(gff3_reason(got.refused));
+ *             }
+ *         }
+ *     }
+ *     const gff3_part last = gff3_end_parts(state, hold, GFF3_HOLD_LENGTH);
+ *     ...the same with `last`
+ *
+ * A line stands in the hold until the next call with that hold. Two texts may come side by side, each with its own state and hold.
+ */
+
+/* What was taken of the line that is begun and not ended: `hold[..held]`; behind it, by GFF3_TAIL_WAITS, one carriage return that stands
+ * nowhere in the hold, since a line feed may follow; by GFF3_TAIL_LONG, more bytes than the hold takes. Where `held` and `tail` are 0, no
+ * line is begun. */
+enum { GFF3_TAIL_FITS = 0, GFF3_TAIL_WAITS = 1, GFF3_TAIL_LONG = 2 };
+
+typedef struct {
+    size_t held;
+    uint64_t tail;      /* any other number counts as GFF3_TAIL_LONG, so that no line is handed out by it */
+} gff3_state;
+
+/* Where `has_line` and `refused` are 0, the whole part is taken and no line has ended; of the end call, no line was begun. */
+typedef struct {
+    uint64_t refused;   /* 0, 25 or 34 */
+    uint64_t has_line;  /* 1: the line is the hold's first `length` bytes */
+    size_t length;
+    size_t taken;       /* bytes of the part; 0 in the end call and with 34 */
+    gff3_state state;   /* for the next call; with 34 the one handed in, as it was */
+} gff3_part;
+
+/* Takes the part up to its first line feed, that included, or all of it where it has none. An empty part changes nothing. Refusals 34, 25.
+ * With 34, which a hold of GFF3_HOLD_LENGTH bytes and a state as above never give, nothing changes and nothing is taken, so that a loop
+ * which goes by `taken` has to end there. In every other case one byte at least is taken of a part that has any. With 25 the line is taken
+ * up to its line feed, and the state is that of a new line. */
+gff3_part gff3_take_part(gff3_state state, uint8_t *hold, size_t hold_len, const uint8_t *part, size_t part_len);
+
+/* The end of the text: the line that is begun, with a carriage return at its end if it has one. The state is then that of a new text, but
+ * with 34, which changes nothing. Refusals 34, 25. */
+gff3_part gff3_end_parts(gff3_state state, uint8_t *hold, size_t hold_len);
 
 /* ---- columns of a record ---- */
 

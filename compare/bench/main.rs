@@ -2,11 +2,12 @@
 //!
 //!     bench FILE [ROUNDS]
 //!
-//! Five passes over an annotation: splitting its lines; finding the columns of each record line; reading start, end, strand and
-//! phase of each, its columns found anew; walking each column 9 to its end; writing each record again, by unfolding and writing
-//! here, and by the Rust's record and its writer. Lines and columns are cut before the pass that needs them. The two take turns,
+//! Six passes over an annotation: splitting its lines; splitting them while the text comes in parts of 65,536 bytes; finding the
+//! columns of each record line; reading start, end, strand and phase of each, its columns found anew; walking each column 9 to its
+//! end; writing each record again, by unfolding and writing here, and by the Rust's record and its writer. Lines and columns are cut
+//! before the pass that needs them. Parts are read into a buffer, as they would be from a file, on both sides. The two take turns,
 //! each time is the least of all rounds, and both must come to the same counts and sums; what they write is compared byte by byte
-//! before the passes. No buffer is cleared or filled within a pass, but for the Rust's vector, which is emptied before each record.
+//! before the passes. No buffer is cleared or filled from line to line, but for the Rust's vectors, which are emptied before each.
 
 #[path = "../src/ours.rs"]
 #[expect(dead_code, reason = "the passes call some of the functions")]
@@ -15,6 +16,7 @@ mod ours;
 use std::{
     env, fs,
     hint::black_box,
+    io::Read,
     process::ExitCode,
     time::{Duration, Instant},
 };
@@ -53,6 +55,7 @@ fn main() -> ExitCode {
 
     let passes = [
         pass("lines", rounds, || split(&text), || rust::lines(&text)),
+        pass("parts", rounds, || in_parts(&text), || rust::parts(&text, PART)),
         pass("columns", rounds, || index(&lines), || rust::columns(&lines)),
         pass("fields", rounds, || fields(&lines), || rust::fields(&lines)),
         pass("attributes", rounds, || walk(&columns), || rust::attributes(&columns)),
@@ -60,7 +63,7 @@ fn main() -> ExitCode {
     ];
 
     println!("{:<12} {:>10} {:>10} {:>10}", "pass", "ours", "Rust", "ours/Rust");
-    let mut all = Pass::named("all five");
+    let mut all = Pass::named("all six");
 
     for pass in passes {
         let pass = match pass {
@@ -180,6 +183,54 @@ fn split(text: &[u8]) -> Sum {
         count += 1;
         sum += (line.end - line.start) as u64;
         at = line.next;
+    }
+}
+
+/// The length of a part, and of the hold: a longer line is not handed out, so that the sums differ where the text has one.
+const PART: usize = 65_536;
+
+#[inline(never)]
+fn in_parts(mut input: &[u8]) -> Sum {
+    let mut buffer = vec![0; PART];
+    let mut text = Arriving {
+        hold: vec![0; PART],
+        state: ours::State::default(),
+        sum: (0, 0),
+    };
+
+    while let Ok(count @ 1..) = input.read(&mut buffer) {
+        text.take(&buffer[..count]);
+    }
+
+    let last = ours::end_parts(text.state, &mut text.hold);
+    text.add(last);
+    text.sum
+}
+
+/// A text that comes in parts.
+struct Arriving {
+    hold: Vec<u8>,
+    state: ours::State,
+    sum: Sum,
+}
+
+impl Arriving {
+    fn take(&mut self, mut part: &[u8]) {
+        while !part.is_empty() {
+            let answer = ours::take_part(self.state, &mut self.hold, part);
+            self.add(answer);
+            self.state = answer.state;
+            part = &part[answer.taken..];
+        }
+    }
+
+    /// Adds the line that a call handed out, if it did: its length and its last byte.
+    fn add(&mut self, answer: ours::Part) {
+        if answer.has_line != 0 {
+            let last = self.hold[..answer.length].last();
+            self.sum.0 += 1;
+            self.sum.1 += answer.length as u64 + last.map_or(0, |&byte| u64::from(byte));
+        }
     }
 }
 

@@ -20,6 +20,18 @@ pub fn split(samples: &mut Samples) {
         samples.of(text, lines::read_lines(text.as_bytes()), expected);
     }
 
+    samples.title("25: a line of 65,537 bytes, and how long it is as the Rust reads it");
+    let long = vec![b'a'; 65_537];
+
+    for (name, end) in [
+        ("a line feed", "\n"),
+        ("CR and a line feed", "\r\n"),
+        ("the end of the text", ""),
+    ] {
+        let lines = lines::read_lines(&[&long, end.as_bytes()].concat());
+        samples.of(name, lines.first().map_or(0, Vec::len), "65537");
+    }
+
     samples.title("lines of a text (public reader, skips white space)");
     samples.of("a\n \t\n\nb", lines::read_lines_not_blank(b"a\n \t\n\nb"), "['a', 'b']");
 }

@@ -16,6 +16,7 @@ pub fn loops(samples: &mut Samples) {
 
     samples.title("loops for measuring: count, sum");
     samples.of("lines", bench::lines(text), "(5, 71)");
+    samples.of("parts", bench::parts(text, 4), "(5, 338)");
     samples.of("columns", bench::columns(&parts), "(2, 228)");
     samples.of("attributes", bench::attributes(&columns), "(2, 6)");
     samples.of("whole", bench::whole(text), "(2, 6)");

@@ -39,16 +39,18 @@ impl Slack {
 /// What a call is given. A call leaves out what it has no use for.
 #[derive(Clone, Copy, Debug, Default)]
 pub struct Case<'a> {
-    /// The text, line, column, value, sheet or key.
+    /// The text, part, line, column, value, sheet or key.
     pub text: &'a [u8],
     /// The tag that is looked up, or the first text beside a key.
     pub tag: &'a [u8],
     /// The second text beside a key.
     pub second: &'a [u8],
-    /// The cursor, the column, the set, or the kind of a directive's value.
+    /// The cursor, the column, the set, the kind of a directive's value, or the bytes that are held.
     pub number: usize,
-    /// The numbers beside a sheet or a key.
+    /// The numbers beside a sheet or a key; beside a part, as parts.rs has them.
     pub numbers: [u64; 4],
+    /// The places where a text is cut into parts, from the first on.
+    pub cuts: &'a [usize],
     /// Whether the last value is out.
     pub out: u64,
     pub bounds: Given,
@@ -87,13 +89,17 @@ impl fmt::Display for Case<'_> {
         if self.number != 0 {
             writeln!(
                 f,
-                "  number   {} (the cursor, the column, the set or the kind)",
+                "  number   {} (the cursor, the column, the set, the kind, or what is held)",
                 self.number
             )?;
         }
 
         if self.numbers != [0; 4] {
             writeln!(f, "  numbers  {:?}", self.numbers)?;
+        }
+
+        if !self.cuts.is_empty() {
+            writeln!(f, "  cuts     {:?}", self.cuts)?;
         }
 
         if self.out != 0 {

@@ -5,6 +5,7 @@ use std::fmt::Debug;
 use crate::{
     case::{By, Case, Compared, Difference, Slack, Verdict, same},
     fence::{Room, Side, Texts},
+    hold::{BEFORE, Hold},
     ours::{self, Written},
 };
 
@@ -22,13 +23,14 @@ const BESIDE: usize = 4096;
 
 /// What the turns advance by, the golden ratio's share of 64 bits, so that the ways come in no short rhythm and each of them
 /// meets each case that a loop makes.
-const STRIDE: u64 = 0x9e37_79b9_7f4a_7c15;
+pub const STRIDE: u64 = 0x9e37_79b9_7f4a_7c15;
 
 pub struct Desk {
     texts: Texts,
     tags: Texts,
     seconds: Texts,
     room: Room,
+    holds: [Hold; 2],
     turn: u64,
     way: u64,
 }
@@ -44,6 +46,7 @@ impl Desk {
             tags: Texts::new(LONGEST),
             seconds: Texts::new(LONGEST),
             room: Room::new(WIDEST),
+            holds: [Hold::new(false), Hold::new(true)],
             turn: 0,
             way: 0,
         }
@@ -76,6 +79,37 @@ impl Desk {
     pub fn text_and_tag(&mut self, case: Case<'_>) -> (&[u8], &[u8]) {
         let side = self.side();
         (self.texts.lend(case.text, side), self.tags.lend(case.tag, side))
+    }
+
+    /// The hold of this way: the shifted one where a text may stand right before it.
+    pub fn hold(&mut self) -> &mut Hold {
+        &mut self.holds[self.which_hold()]
+    }
+
+    fn which_hold(&self) -> usize {
+        usize::from(self.way / 2 % 2 == 1)
+    }
+
+    /// A part and the hold, in which stands what the last call left.
+    pub fn part_and_hold(&mut self, part: &[u8]) -> (&[u8], &mut [u8]) {
+        if self.is_behind() && part.len() < BEFORE {
+            return self.hold().lend_behind(part);
+        }
+
+        let (side, which) = (self.side(), self.which_hold());
+        (self.texts.lend(part, side), self.holds[which].lend())
+    }
+
+    /// A part, and a hold of a length that is refused: nothing in it or beside it may change.
+    pub fn refuses<A: Debug + PartialEq>(
+        &mut self,
+        part: &[u8],
+        len: usize,
+        call: impl Fn(&[u8], &mut [u8]) -> A,
+        answer: A,
+    ) -> Compared {
+        let case = Case::of(part);
+        self.compares(case, len, b"", |[part, ..], hold| call(part, hold), answer)
     }
 
     /// Compares a writer's answer, and what it left in and beside its buffer, with the text expected or a refusal that comes

@@ -9,10 +9,10 @@ use std::{
 };
 
 /// What a page has on x86-64 Linux, which the library is built for.
-const PAGE: usize = 4096;
+pub const PAGE: usize = 4096;
 
 /// The bytes beside a lent output buffer whose contents are watched.
-const MARGIN: usize = 64;
+pub const MARGIN: usize = 64;
 
 const PROT_NONE: c_int = 0;
 const PROT_READ: c_int = 1;
@@ -91,7 +91,7 @@ impl Room {
         let len = (len + MARGIN).next_multiple_of(PAGE);
 
         Self {
-            start: unsafe { fenced(len, PROT_READ | PROT_WRITE, MAP_PRIVATE | MAP_ANONYMOUS, -1) },
+            start: fenced_pages(len),
             len,
             lent: 0..0,
             beside: Vec::new(),
@@ -161,7 +161,7 @@ impl Room {
 }
 
 /// A byte that differs from place to place, and is rare in texts.
-fn pattern(at: usize) -> u8 {
+pub fn pattern(at: usize) -> u8 {
     0x80 | (at as u8).wrapping_mul(37)
 }
 
@@ -172,6 +172,11 @@ fn place(len: usize, n: usize, side: Side) -> usize {
         Side::Last => len - n,
         Side::First => 0,
     }
+}
+
+/// Pages for writing with an inaccessible one before and behind them.
+pub fn fenced_pages(len: usize) -> *mut u8 {
+    unsafe { fenced(len, PROT_READ | PROT_WRITE, MAP_PRIVATE | MAP_ANONYMOUS, -1) }
 }
 
 /// Pages with an inaccessible one before and behind them.

@@ -18,11 +18,13 @@ mod columns;
 mod desk;
 mod directives;
 mod fence;
+mod hold;
 mod lines;
 mod marks;
 mod numbers;
 mod options;
 mod ours;
+mod parts;
 mod records;
 mod report;
 mod score;
@@ -68,8 +70,8 @@ macro_rules! groups {
     };
 }
 
-static GROUPS: [Group; 8] = groups![
-    lines, columns, attributes, directives, coding, unfolding, records, marks
+static GROUPS: [Group; 9] = groups![
+    lines, columns, attributes, directives, coding, unfolding, records, marks, parts
 ];
 
 /// What a group did.

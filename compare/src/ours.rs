@@ -34,6 +34,8 @@ structs! {
         value_start: usize,
         value_end: usize
     }
+    State { held: usize, tail: u64 }
+    Part { refused: u64, has_line: u64, length: usize, taken: usize, state: State }
     Bounds { ends: [usize; 8] }
     Indexed { refused: u64, bounds: Bounds }
     Place { refused: u64, start: usize, end: usize }
@@ -72,6 +74,8 @@ unsafe extern "C" {
     fn gff3_kind(line: *const u8, line_len: usize) -> u32;
     fn gff3_comment(line: *const u8, line_len: usize) -> CommentText;
     fn gff3_directive(line: *const u8, line_len: usize) -> DirectiveText;
+    fn gff3_take_part(state: State, hold: *mut u8, hold_len: usize, part: *const u8, part_len: usize) -> Part;
+    fn gff3_end_parts(state: State, hold: *mut u8, hold_len: usize) -> Part;
     fn gff3_index(line: *const u8, line_len: usize) -> Indexed;
     fn gff3_column(line: *const u8, line_len: usize, bounds: Bounds, column: u32) -> Place;
     fn gff3_start(line: *const u8, line_len: usize, bounds: Bounds) -> Number;
@@ -155,6 +159,15 @@ on_texts! {
     judge = gff3_judge(line) -> Unfolded;
 }
 
+#[inline]
+pub fn take_part(state: State, hold: &mut [u8], part: &[u8]) -> Part {
+    unsafe { gff3_take_part(state, pointer_mut(hold), hold.len(), pointer(part), part.len()) }
+}
+
+pub fn end_parts(state: State, hold: &mut [u8]) -> Part {
+    unsafe { gff3_end_parts(state, pointer_mut(hold), hold.len()) }
+}
+
 pub fn text(line: &[u8], bounds: Bounds, column: u32, out: &mut [u8]) -> Written {
     unsafe { gff3_text(pointer(line), line.len(), bounds, column, pointer_mut(out), out.len()) }
 }
@@ -219,6 +232,7 @@ fn pointer(text: &[u8]) -> *const u8 {
     }
 }
 
+#[inline]
 fn pointer_mut(out: &mut [u8]) -> *mut u8 {
     if out.is_empty() && EMPTY_IS_NULL.get() {
         ptr::null_mut()

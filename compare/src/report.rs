@@ -32,6 +32,8 @@ calls! {
     Kind = "gff3_kind",
     Comment = "gff3_comment",
     Directive = "gff3_directive",
+    TakePart = "gff3_take_part",
+    EndParts = "gff3_end_parts",
     Index = "gff3_index",
     Column = "gff3_column",
     Start = "gff3_start",

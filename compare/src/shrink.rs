@@ -15,6 +15,7 @@ pub struct Owned {
     second: Vec<u8>,
     number: usize,
     numbers: [u64; 4],
+    cuts: Vec<usize>,
     out: u64,
     bounds: Given,
     slack: Slack,
@@ -28,6 +29,7 @@ impl Owned {
             second: case.second.to_vec(),
             number: case.number,
             numbers: case.numbers,
+            cuts: case.cuts.to_vec(),
             out: case.out,
             bounds: case.bounds,
             slack: case.slack,
@@ -41,6 +43,7 @@ impl Owned {
             second: &self.second,
             number: self.number,
             numbers: self.numbers,
+            cuts: &self.cuts,
             out: self.out,
             bounds: self.bounds,
             slack: self.slack,
@@ -56,7 +59,8 @@ pub fn smallest(case: Case<'_>, differs: impl FnMut(Case<'_>) -> bool) -> Owned 
         until: Instant::now() + PATIENCE,
     };
 
-    while search.dropped(|owned| &mut owned.text)
+    while search.dropped(|owned| &mut owned.cuts)
+        | search.dropped(|owned| &mut owned.text)
         | search.dropped(|owned| &mut owned.tag)
         | search.dropped(|owned| &mut owned.second)
         | search.plainer()
@@ -88,8 +92,8 @@ impl<F: FnMut(Case<'_>) -> bool> Search<F> {
         kept
     }
 
-    /// Drops runs of bytes, long ones first. A cursor behind them may move along.
-    fn dropped(&mut self, part: fn(&mut Owned) -> &mut Vec<u8>) -> bool {
+    /// Drops runs of bytes or cuts, long ones first. A cursor behind them may move along, and so may cuts.
+    fn dropped<T>(&mut self, part: fn(&mut Owned) -> &mut Vec<T>) -> bool {
         let before = part(&mut self.least).len();
         let mut run = before.div_ceil(2);
 
@@ -101,6 +105,7 @@ impl<F: FnMut(Case<'_>) -> bool> Search<F> {
                 part(&mut candidate).drain(at..at + run);
                 let mut moved = candidate.clone();
                 moved.number = moved.number.saturating_sub(run);
+                moved.cuts.iter_mut().for_each(|cut| *cut = moved_back(*cut, at, run));
 
                 if !self.keep(candidate) && !self.keep(moved) {
                     at += run;
@@ -155,4 +160,9 @@ impl<F: FnMut(Case<'_>) -> bool> Search<F> {
 
         any
     }
+}
+
+/// Where a cut comes to stand when `run` bytes go from `at` on.
+fn moved_back(cut: usize, at: usize, run: usize) -> usize {
+    cut - cut.saturating_sub(at).min(run)
 }

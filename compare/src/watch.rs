@@ -73,6 +73,7 @@ const EMPTY: Case<'static> = Case {
     second: b"",
     number: 0,
     numbers: [0; 4],
+    cuts: &[],
     out: 0,
     bounds: crate::case::Given::Own,
     slack: crate::case::Slack::Full,

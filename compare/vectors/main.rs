@@ -7,6 +7,7 @@
 
 mod leaves;
 mod list;
+mod parts;
 mod reading;
 #[path = "../src/sheet.rs"]
 mod sheet;
@@ -29,6 +30,7 @@ fn main() {
     leaves::decoding(&mut list);
     leaves::encoding(&mut list);
     reading::lines(&mut list);
+    parts::parts(&mut list);
     reading::columns(&mut list);
     reading::attributes(&mut list);
     reading::directives(&mut list);

@@ -1,6 +1,7 @@
 //! The C functions, as `bindings/c/gff3_lines.h` has them.
 //!
-//! Each takes any numbers. What a call owes: each pointer is that of a slice, its length behind it, and an output buffer overlaps no text.
+//! Each takes any numbers. What a call owes: each pointer is that of a slice, its length behind it, and an output buffer or a hold
+//! overlaps no text.
 
 use super::Bounds;
 
@@ -27,6 +28,22 @@ pub struct DirectiveText {
     pub has_value: u64,
     pub value_start: usize,
     pub value_end: usize,
+}
+
+#[repr(C)]
+#[derive(Clone, Copy, Debug, Default, PartialEq, Eq)]
+pub struct State {
+    pub held: usize,
+    pub tail: u64,
+}
+
+#[repr(C)]
+pub struct Part {
+    pub refused: u64,
+    pub has_line: u64,
+    pub length: usize,
+    pub taken: usize,
+    pub state: State,
 }
 
 #[repr(C)]
@@ -146,6 +163,8 @@ extern "C" {
     pub fn gff3_kind(line: *const u8, line_len: usize) -> u32;
     pub fn gff3_comment(line: *const u8, line_len: usize) -> CommentText;
     pub fn gff3_directive(line: *const u8, line_len: usize) -> DirectiveText;
+    pub fn gff3_take_part(state: State, hold: *mut u8, hold_len: usize, part: *const u8, part_len: usize) -> Part;
+    pub fn gff3_end_parts(state: State, hold: *mut u8, hold_len: usize) -> Part;
     pub fn gff3_index(line: *const u8, line_len: usize) -> Indexed;
     pub fn gff3_column(line: *const u8, line_len: usize, bounds: Bounds, column: u32) -> Place;
     pub fn gff3_start(line: *const u8, line_len: usize, bounds: Bounds) -> Number;

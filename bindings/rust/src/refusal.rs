@@ -43,7 +43,8 @@ macro_rules! in_words {
 in_words! {
 /// Why a call does not answer, by the numbers of the rules.
 ///
-/// No call here answers [`Refusal::Room`], since a buffer that is too short grows.
+/// No call here answers [`Refusal::Room`], since a buffer that is too short grows, nor [`Refusal::Hold`], since [`Parts`](crate::Parts)
+/// brings its own. The numbers have a gap before the last.
 ///
 /// ```
 /// use gff3_lines::{Refusal, position};
@@ -105,6 +106,10 @@ pub enum Refusal {
     Sheet = 23,
     /// the line or the text is too long
     TooLong = 24,
+    /// the line has more than 65,536 bytes
+    LineTooLong = 25,
+    /// the hold has not 65,536 bytes, or the state says that it holds more
+    Hold = 34,
 }
 }
 

@@ -8,6 +8,7 @@ use program_replay_read::columns_cases;
 use program_replay_read::directive_cases;
 use program_replay_read::leaves;
 use program_replay_read::line_cases;
+use program_replay_read::parts_cases;
 use program_replay_words::case;
 use program_replay_words::show;
 use read_lines::Cursor;
@@ -31,6 +32,7 @@ fn answer<'a>(letter: u8, line: &'a [u8], text: &'a [u8], other: &'a [u8]) {
         b'd' => leaves::decode(line, text),
         b'e' => leaves::encode(line, text),
         b'L' => line_cases::lines_of(text),
+        b'P' => parts_cases::parts_of(line, text),
         b'K' => line_cases::kind(text),
         b'C' => line_cases::comment(text),
         b'D' => line_cases::directive(text),

@@ -7,3 +7,4 @@ pub mod columns_cases;
 pub mod directive_cases;
 pub mod leaves;
 pub mod line_cases;
+pub mod parts_cases;

@@ -10,6 +10,8 @@ use Rattle.write_decimals.proofs as write-decimals
 use Rattle.percent_decode.proofs as percent-decode
 use Rattle.percent_encode.proofs as percent-encode
 use Rattle.read_lines.proofs as read-lines
+use Rattle.read_parts.proofs as read-parts
+use Rattle.read_parts.proofs.CallLaws.{leaves-one}
 use Rattle.read_kind.proofs as read-kind
 use Rattle.read_tokens.proofs as read-tokens
 use Rattle.read_columns.proofs as read-columns
@@ -38,6 +40,9 @@ calls =
     record {
       cursor = told (λ M. read-lines.Cursor.new.Met.met);
       next-line = told (λ M. read-lines.next_line.Met.met);
+      state = told (λ M. read-parts.state.State.new.Met.met);
+      take-part = record { does = λ M. read-parts.take_part.Met.met; one = leaves-one };
+      end-parts = record { does = λ M. read-parts.end_parts.Met.met; one = leaves-one };
       kind-of = told (λ M. read-kind.kind_of.Met.met);
       comment-of = told (λ M. read-kind.comment_of.Met.met);
       directive-of = told (λ M. read-kind.directive_of.Met.met);

@@ -1,7 +1,9 @@
 -- Each call in C does what specs/InC.antt says: that is its contract, which its code meets. Assumes nothing.
 use Rattle.read_record.proofs.UnfoldLaws.{unfolds-one}
 use Rattle.c_answers.proofs.AnswersLaws.{as-c-one, c-wrote-one}
+use Rattle.read_parts.proofs.CallLaws.{leaves-one}
 use Rattle.c_lines.proofs as c-lines
+use Rattle.c_parts.proofs as c-parts
 use Rattle.c_directives.proofs as c-directives
 use Rattle.c_columns.proofs as c-columns
 use Rattle.c_fields.proofs as c-fields
@@ -19,6 +21,8 @@ in-c =
       gff3-kind = told (λ M. c-lines.gff3_kind.Met.met);
       gff3-comment = told (λ M. c-lines.gff3_comment.Met.met);
       gff3-directive = told (λ M. c-lines.gff3_directive.Met.met);
+      gff3-take-part = record { does = λ M. c-parts.gff3_take_part.Met.met; one = as-c-one (λ _ _. leaves-one) };
+      gff3-end-parts = record { does = λ M. c-parts.gff3_end_parts.Met.met; one = as-c-one (λ _ _. leaves-one) };
       gff3-index = told (λ M. c-columns.gff3_index.Met.met);
       gff3-column = told (λ M. c-columns.gff3_column.Met.met);
       gff3-text = record { does = λ M. c-fields.gff3_text.Met.met; one = c-wrote-one };

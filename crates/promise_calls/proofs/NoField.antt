@@ -7,6 +7,7 @@ use lib.ListN.{replicate}
 use Rattle.base_buffer.specs.declared.Written.the-variants as written
 use Rattle.base_buffer.specs.Answer.{number, needed}
 use Rattle.read_lines.specs.declared.Next.the-variants as line
+use Rattle.read_parts.specs.declared.Part.the-variants as lines-part
 use Rattle.read_kind.specs.declared.comment.CommentText.the-variants as comment
 use Rattle.read_kind.specs.declared.directive.DirectiveText.the-variants as directive
 use Rattle.read_kind.specs.declared.directive.ValueText.the-variants as text
@@ -73,6 +74,24 @@ no-field =
             | field.Refused ↦ λ h. zeros 5
           ];
       found = elim [ found.At p ↦ λ h. absurd (h refl) | found.Absent ↦ λ h. absurd (h refl) | found.Refused ↦ λ h. zeros 3 ];
+      part = λ was. elim [
+        | lines-part.Line n taken s ↦ λ h. absurd (h refl)
+        | lines-part.TooLong taken s ↦ λ h. zeros 2
+        | lines-part.NoLine taken s ↦ λ h. absurd (h refl)
+        | lines-part.Refused n ↦ λ h. zeros 2
+      ];
+      part-state = λ was. elim [
+        | lines-part.Line n taken s ↦ λ h k. absurd (h refl)
+        | lines-part.TooLong taken s ↦ λ h k. absurd (k refl)
+        | lines-part.NoLine taken s ↦ λ h k. absurd (h refl)
+        | lines-part.Refused n ↦ λ h k. refl
+      ];
+      part-taken = λ was. elim [
+        | lines-part.Line n taken s ↦ λ h. absurd (h .0 refl)
+        | lines-part.TooLong taken s ↦ λ h. absurd (h .1 refl)
+        | lines-part.NoLine taken s ↦ λ h. absurd (h .0 refl)
+        | lines-part.Refused n ↦ λ h. zeros 1
+      ];
       version =
           elim [
             | version.Is v ↦ λ h. absurd (h (parts-refused 0 (v .major) (v .minor) (v .patch)))
@@ -129,6 +148,12 @@ no-field =
             | directive.Is key v ↦ elim v [ text.At p ↦ λ h. absurd (omega arith) | text.Absent ↦ λ h. zeros 2 ]
             | directive.NotOne ↦ λ h. zeros 2
           ];
+      no-line = λ was. elim [
+        | lines-part.Line n taken s ↦ λ h. absurd (omega arith)
+        | lines-part.TooLong taken s ↦ λ h. zeros 1
+        | lines-part.NoLine taken s ↦ λ h. zeros 1
+        | lines-part.Refused n ↦ λ h. zeros 1
+      ];
       no-comment = elim [ comment.At p ↦ λ h. absurd (omega arith) | comment.NotOne ↦ λ h. zeros 2 ];
       no-directive =
           elim [

@@ -10,6 +10,8 @@ use Rattle.percent_coding.specs.Percent.{decoded, encoded}
 use Rattle.percent_sets.specs.Sets.{escapes}
 use Rattle.percent_encode.specs.Encode.{encode-reasons}
 use Rattle.read_lines.specs.Step as lines
+use Rattle.read_parts.specs.State as parts
+use Rattle.read_parts.specs.Calls.{TakesPart, EndsParts}
 use Rattle.read_kind.specs.Kind.{kind, comment-of, directive-of}
 use Rattle.read_tokens.specs.Tokens.{position-of, strand-of, phase-of}
 use Rattle.read_columns.specs.Columns.{indexed, column-at, column-text}
@@ -32,6 +34,7 @@ use Rattle.write_decimals.proofs as write-decimals
 use Rattle.percent_decode.proofs as percent-decode
 use Rattle.percent_encode.proofs as percent-encode
 use Rattle.read_lines.proofs as read-lines
+use Rattle.read_parts.proofs as read-parts
 use Rattle.read_kind.proofs as read-kind
 use Rattle.read_tokens.proofs as read-tokens
 use Rattle.read_columns.proofs as read-columns
@@ -56,6 +59,12 @@ pub record Calls : Type 2 where
       (λ _ a. lines.fresh)
   pub next-line : Gives read-lines.next_line.ended read-lines.next_line.Symbol.routine
       (λ _ (text, (cursor, _)). lines.next-line (now text) cursor)
+  pub state : Gives read-parts.state.State.new.ended read-parts.state.State.new.Symbol.routine
+      (λ _ a. parts.fresh)
+  pub take-part : Fills read-parts.take_part.ended read-parts.take_part.Symbol.routine (λ _ (_, (hold, _)). now hold)
+      (λ _ (state, (hold, (part, _))). TakesPart state (now part) (now hold))
+  pub end-parts : Fills read-parts.end_parts.ended read-parts.end_parts.Symbol.routine (λ _ (_, (hold, _)). now hold)
+      (λ _ (state, (hold, _)). EndsParts state (now hold))
   -- RULES 2: kinds
   pub kind-of : Gives read-kind.kind_of.ended read-kind.kind_of.Symbol.routine
       (λ _ (line, _). kind (now line))

@@ -22,6 +22,7 @@ use Rattle.write_directive.specs.Directive.{directive-reasons, directive-line}
 use Rattle.write_measure.specs.Record.{record-reasons, record-line}
 use Rattle.c_answers.specs.Answers.{bounds-of-c, c-position, CWrote}
 use Rattle.c_lines.specs.Line.{c-next-line, c-comment, c-directive}
+use Rattle.c_parts.specs.Part.{CTakesPart, CEndsParts}
 use Rattle.c_directives.specs.Directive.{c-version, c-region, c-build}
 use Rattle.c_columns.specs.Columns.{column-of-c, c-column-at, c-indexed, c-place}
 use Rattle.c_fields.specs.Fields.{text-column-of-c, c-text-reasons, c-text, c-score, c-strand, c-phase}
@@ -30,6 +31,7 @@ use Rattle.c_coding.specs.Coding.{set-of-c}
 use Rattle.c_unfold.specs.Sheet.{c-judged, CUnfolds}
 use Rattle.c_write.specs.Value.{value-of-c}
 use Rattle.c_lines.proofs as c-lines
+use Rattle.c_parts.proofs as c-parts
 use Rattle.c_directives.proofs as c-directives
 use Rattle.c_columns.proofs as c-columns
 use Rattle.c_fields.proofs as c-fields
@@ -49,6 +51,10 @@ pub record InC : Type 2 where
       (λ _ (line, _). c-comment (comment-of (now line)))
   pub gff3-directive : Gives c-lines.gff3_directive.ended c-lines.gff3_directive.Symbol.routine
       (λ _ (line, _). c-directive (directive-of (now line)))
+  pub gff3-take-part : Fills c-parts.gff3_take_part.ended c-parts.gff3_take_part.Symbol.routine (λ _ (_, (hold, _)). now hold)
+      (λ _ (state, (hold, (part, _))). CTakesPart state (now part) (now hold))
+  pub gff3-end-parts : Fills c-parts.gff3_end_parts.ended c-parts.gff3_end_parts.Symbol.routine (λ _ (_, (hold, _)). now hold)
+      (λ _ (state, (hold, _)). CEndsParts state (now hold))
   -- RULES 3 and 4: columns and tokens
   pub gff3-index : Gives c-columns.gff3_index.ended c-columns.gff3_index.Symbol.routine
       (λ _ (line, _). c-indexed (indexed (now line)))

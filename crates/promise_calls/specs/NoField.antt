@@ -1,6 +1,7 @@
 -- A refused call hands out no field. In the structs that C gets (RULES 16.4) every other number is 0 where `refused` is not, but for
--- `length` with 22, which is the length needed, and the cursor `next` of the walk over column 9. Where an answer says that a walk is done,
--- or that something is missing, absent or not of the kind, the numbers that would hold it are 0. Assumes nothing: these are definitions.
+-- `length` with 22, which is the length needed, the cursor `next` of the walk over column 9, and what carries a text in parts on: the bytes
+-- taken with 25, and the state. Where an answer says that a walk is done, or that something is missing, absent or not of the kind, the
+-- numbers that would hold it are 0. Assumes nothing: these are definitions.
 use Prim.Native.Nat.{ℕ}
 use mathlib.Core.Path.{_≡_}
 use mathlib.Core.Logic.{_≢_}
@@ -8,6 +9,9 @@ use mathlib.Core.List.{List, [], _∷_}
 use Rattle.base_lists.specs.Bytes.{Every}
 use Rattle.c_answers.specs.Answers.{c-position, c-written}
 use Rattle.c_lines.specs.Line.{c-line, c-comment, c-directive}
+use Rattle.read_parts.specs.declared.Part.{Part}
+use Rattle.c_parts.specs.declared.Gff3State.{Gff3State}
+use Rattle.c_parts.specs.Part.{c-part}
 use Rattle.c_directives.specs.Directive.{c-version, c-region, c-build}
 use Rattle.c_columns.specs.Columns.{c-indexed, c-place}
 use Rattle.c_fields.specs.Fields.{c-score, c-strand, c-phase}
@@ -35,6 +39,11 @@ pub record NoField : Type 0 where
   pub field : (here : ℕ) → Bare (c-field here) (λ r. r .refused ≢ 0)
       (λ r. r .done ∷ r .«tag_start» ∷ r .«tag_end» ∷ r .«value_start» ∷ r .«value_end» ∷ [])
   pub found : Bare c-found (λ r. r .refused ≢ 0) (λ r. r .found ∷ r .start ∷ r .end ∷ [])
+  pub part : (was : Gff3State) → Bare (c-part was) (λ r. r .refused ≢ 0) (λ r. r .«has_line» ∷ r .length ∷ [])
+  pub part-taken : (was : Gff3State) → Bare (c-part was) (λ r. (r .refused ≢ 0) × (r .refused ≢ 25)) (λ r. r .taken ∷ [])
+  -- and the state is the one handed in
+  pub part-state : (was : Gff3State) (answer : Part) → c-part was answer .refused ≢ 0 → c-part was answer .refused ≢ 25
+      → c-part was answer .state ≡ was
   pub version : Bare c-version (λ r. r .refused ≢ 0) (λ r. r .parts ∷ r .major ∷ r .minor ∷ r .patch ∷ [])
   pub region : Bare c-region (λ r. r .refused ≢ 0) (λ r. r .«name_start» ∷ r .«name_end» ∷ r .start ∷ r .end ∷ [])
   pub build : Bare c-build (λ r. r .refused ≢ 0) (λ r. r .«source_start» ∷ r .«source_end» ∷ r .«name_start» ∷ r .«name_end» ∷ [])
@@ -53,6 +62,7 @@ pub record NoField : Type 0 where
   pub minor-absent : Bare c-version (λ r. r .parts ≡ 1) (λ r. r .minor ∷ r .patch ∷ [])
   pub patch-absent : Bare c-version (λ r. r .parts ≡ 2) (λ r. r .patch ∷ [])
   pub value-absent : Bare c-directive (λ r. r .«has_value» ≡ 0) (λ r. r .«value_start» ∷ r .«value_end» ∷ [])
+  pub no-line : (was : Gff3State) → Bare (c-part was) (λ r. r .«has_line» ≡ 0) (λ r. r .length ∷ [])
   pub no-comment : Bare c-comment (λ r. r .is ≡ 0) (λ r. r .start ∷ r .end ∷ [])
   pub no-directive : Bare c-directive (λ r. r .is ≡ 0)
       (λ r. r .«key_start» ∷ r .«key_end» ∷ r .«has_value» ∷ r .«value_start» ∷ r .«value_end» ∷ [])

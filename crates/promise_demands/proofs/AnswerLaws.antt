@@ -3,12 +3,13 @@ use Prim.Native.Nat.{ℕ}
 use borrow.Author.Needs.{needs}
 use mathlib.Core.Path.{_≡_, refl, ap, _∙_}
 use mathlib.Core.Logic.{_≢_}
-use mathlib.Core.List.{List}
+use mathlib.Core.Bool.{Bool, cond}
+use mathlib.Core.List.{List, [], _∷_}
 use mathlib.Core.Option.{none}
 use lib.ListN.{length}
 use Rattle.base_buffer.specs.declared.Written.{Written}
 use Rattle.base_buffer.specs.declared.Written.the-variants.{Done, Refused, NoRoom}
-use Rattle.base_buffer.specs.Answer.{Reason, number, contents}
+use Rattle.base_buffer.specs.Answer.{Reason, _when_, number, contents}
 use Rattle.base_buffer.proofs.AnswerLaws.{Numbered, wrote-one, number-answer}
 use Rattle.write_directive.specs.declared.directive.Value.{Value}
 use Rattle.write_directive.specs.declared.directive.Value.the-variants.{None, Text, Version, Region, Build}
@@ -26,8 +27,14 @@ use Rattle.read_record.specs.declared.lay.Unfolded.{Unfolded}
 use Rattle.read_record.specs.declared.lay.Unfolded.the-variants as outcome
 use Rattle.read_record.specs.Unfold.{as-written, with-numbers, Unfolds}
 use Rattle.read_record.proofs.UnfoldLaws.{unfolds-one, wrote-unfolds}
+use Rattle.read_parts.specs.declared.state.State.{State}
+use Rattle.read_parts.specs.declared.Part.{Part}
+use Rattle.read_parts.specs.State.{is-long, grown-hold, settled, settled-hold}
+use Rattle.read_parts.specs.Calls.{part-refusal, refuses, Leaves, of-line, ends-long, take-part, take-reasons, TakesPart, ended, end-reasons, EndsParts}
+use Rattle.read_parts.proofs.CallLaws.{leaves-one}
+use Rattle.read_parts.proofs.ReasonLaws.{leaves-number, leaves-same, take-part-number, ended-number}
 use Rattle.promise_demands.specs.Item.{Item, feature, directive, comment, reasons-of}
-use Rattle.promise_demands.specs.Demand.{Answers, Writes, fields}
+use Rattle.promise_demands.specs.Demand.{Answers, Writes, AnswersPart, fields}
 
 -- ── writing ───────────────────────────────────────────────────────────────────────────────────
 
@@ -80,3 +87,23 @@ unfolding number fields
 no-fields (outcome.Done numbers n) h = absurd (h refl)
 no-fields (outcome.Refused n) h = refl
 no-fields (outcome.NoRoom n) h = refl
+
+-- ── parts ─────────────────────────────────────────────────────────────────────────────────────
+
+module _ (s : State) (answer : Part) (hold : List ℕ → List ℕ) (long : Bool) (number : part-refusal answer ≡ cond long 25 0) where
+  parts-answers : AnswersPart (λ room. (34 when refuses (s .held) room) ∷ (25 when long) ∷ []) (λ d. Leaves s d answer (hold d))
+  parts-answers =
+      record {
+        some-answer = λ d. (_, _, record { result = refl; left = refl });
+        one-answer = leaves-one;
+        first-reason = leaves-number long number;
+        unchanged = leaves-same long number;
+      }
+
+pub take-part-answers : (s : State) (p : List ℕ) → AnswersPart (take-reasons s p) (TakesPart s p)
+take-part-answers s p =
+    parts-answers s (take-part s p) (grown-hold s (of-line p)) (ends-long s p) (take-part-number s p)
+
+pub end-parts-answers : (s : State) → AnswersPart (end-reasons s) (EndsParts s)
+end-parts-answers s =
+    parts-answers s (ended (settled s)) (settled-hold s) (is-long (settled s .tail)) (ended-number (settled s))

@@ -2,7 +2,7 @@
 use Prim.Native.Nat.{ℕ}
 use native.Mathlib.Omega.{arith}
 use mathlib.Core.Path.{_≡_, refl}
-use mathlib.Core.List.{List, [], _++_}
+use mathlib.Core.List.{List, [], _++_, map-append}
 use lib.ListN.{length}
 use Rattle.base_lists.specs.Bytes.{Every}
 use Rattle.write_decimals.specs.Decimal.{decimal}
@@ -12,6 +12,7 @@ use Rattle.percent_sets.specs.Sets.{escapes}
 use Rattle.percent_encode.specs.Encode.{encode-reasons}
 use Rattle.read_lines.specs.Step.{fresh}
 use Rattle.read_lines.proofs.StepLaws.{lines-met}
+use Rattle.read_parts.proofs.Sameness.{shown-fits, sameness, one-call}
 use Rattle.percent_sets.proofs.SetLaws.{coder-of, bars-signs}
 use Rattle.read_columns.specs.Columns.{column-text}
 use Rattle.read_columns.proofs.ColumnsLaws.{row-record, row-text}
@@ -29,8 +30,8 @@ use Rattle.promise_calls.proofs.NoField.{no-field}
 use Rattle.promise_demands.specs.Item.{Item, reasons-of, line-of, Accepted, ReadsBack}
 use Rattle.promise_survival.specs.Survivors.{lines-of, text-of, before, after}
 use Rattle.promise_survival.specs.Survival.{ByLines}
-use Rattle.promise_demands.specs.Demand.{Demand1, Demand2, Demand3, gff3, HandsOut, whole-text}
-use Rattle.promise_demands.proofs.AnswerLaws.{writes, item-numbered, unfold-answers, no-fields}
+use Rattle.promise_demands.specs.Demand.{Demand1, Demand2, Demand3, gff3, HandsOut, whole-text, in-parts}
+use Rattle.promise_demands.proofs.AnswerLaws.{writes, item-numbered, unfold-answers, take-part-answers, end-parts-answers, no-fields}
 use Rattle.promise_demands.proofs.ItemLaws.{sound, done-accepted, again-accepted}
 use Rattle.promise_survival.proofs.Stretch.{survival}
 
@@ -49,6 +50,8 @@ demand1 =
       count = count-refused;
       section = section-refused;
       unfolds = unfold-answers;
+      take-part = take-part-answers;
+      end-parts = end-parts-answers;
       no-field = no-fields;
       no-field-in-c = no-field;
     }
@@ -72,9 +75,26 @@ demand2 =
 by-lines : ByLines whole-text
 by-lines = record { in-a-row = λ ls ms. refl; all-lines = λ s n h. lines-met n s fresh (omega arith) }
 
+-- and calls in parts tell them
+by-lines-in-parts : ByLines in-parts
+by-lines-in-parts =
+    record {
+      in-a-row = map-append _;
+      all-lines = λ s d room lengths all run. sameness room s .same run;
+    }
+
 -- what was written reads back where nothing touched it, whatever became of one stretch of the text
 pub demand3 : Demand3
-demand3 = record { survival = survival gff3 whole-text sound by-lines; written = done-accepted; again = again-accepted }
+demand3 =
+    record {
+      survival = survival gff3 whole-text sound by-lines;
+      survival-in-parts = survival gff3 in-parts sound by-lines-in-parts;
+      fits = shown-fits;
+      same-in-parts = λ d room s. sameness room s;
+      one-call = λ s d d' r ok. one-call ok;
+      written = done-accepted;
+      again = again-accepted;
+    }
 
 -- ── demand 3 spelled out ──────────────────────────────────────────────────────────────────────
 

@@ -5,8 +5,8 @@
 use Prim.Native.Nat.{ℕ, _*_, _-_, _<_, _≤_}
 use mathlib.Core.Path.{_≡_}
 use mathlib.Core.Logic.{_≢_}
-use mathlib.Core.Bool.{true}
-use mathlib.Core.List.{List, [], _∷_, _++_}
+use mathlib.Core.Bool.{true, false}
+use mathlib.Core.List.{List, [], _∷_, _++_, map}
 use mathlib.Core.Option.{Option, none, some}
 use lib.Dec.{ltb}
 use lib.ListN.{length, drop, getD}
@@ -22,6 +22,14 @@ use Rattle.percent_sets.specs.Sets.{escapes}
 use Rattle.percent_sets.specs.Bars.{bars}
 use Rattle.percent_encode.specs.Encode.{encode-reasons}
 use Rattle.read_lines.specs.Step.{fresh, line-steps}
+use Rattle.read_parts.specs.declared.state.State.{State}
+use Rattle.read_parts.specs.declared.Part.{Part}
+use Rattle.read_parts.specs.State as parts
+use Rattle.read_parts.specs.State.{hold-length}
+use Rattle.read_parts.specs.Calls.{part-refusal, refuses, take-reasons, TakesPart, end-reasons, EndsParts}
+use Rattle.read_parts.specs.Run as run
+use Rattle.read_parts.specs.Run.{Event, shown, Run}
+use Rattle.read_parts.specs.Sameness.{Sameness, OneCall}
 use Rattle.read_kind.specs.Reading.{ReadsComment, ReadsDirective}
 use Rattle.read_columns.specs.declared.bounds.Bounds.{Bounds}
 use Rattle.read_columns.specs.declared.column.Column.{Column}
@@ -73,6 +81,14 @@ pub record Answers {A : Type 0} (number-of : A → ℕ) (reasons : List Reason) 
 abbrev pub Writes : List Reason → List ℕ → Type 0
 Writes reasons text = Answers number reasons (length text) (Wrote reasons text)
 
+-- so of a call in parts, whose buffer is the hold: its number is that of the first reason that holds, 34 being the first of all. With 34 the
+-- hold holds what it held; with 25 it need not, since it is no output
+pub record AnswersPart (reasons : ℕ → List Reason) (P : List ℕ → List ℕ → Part → Type 0) : Type 0 where
+  pub some-answer : (d : List ℕ) → (d' : List ℕ) × (r : Part) × P d d' r
+  pub one-answer : {d d₁ d₂ : List ℕ} {r₁ r₂ : Part} → P d d₁ r₁ → P d d₂ r₂ → (r₁ ≡ r₂) × (d₁ ≡ d₂)
+  pub first-reason : {d d' : List ℕ} {r : Part} → P d d' r → part-refusal r ≡ refusal-of (reasons (length d))
+  pub unchanged : {d d' : List ℕ} {r : Part} → P d d' r → part-refusal r ≡ 34 → d' ≡ d
+
 -- the fields that an answer of `unfold` hands out
 unfoldable pub fields : Unfolded → Option Numbers
 fields (outcome.Done numbers n) = some numbers
@@ -98,6 +114,9 @@ pub record Demand1 : Type 2 where
   -- `unfold`, which answers as a writer of the sheet, with the numbers beside it
   pub unfolds : (line : List ℕ)
       → Answers (λ r. number (as-written r)) (unfold-reasons line) (length (sheet-of (unfolded line))) (Unfolds line)
+  -- `take_part`, `end_parts`
+  pub take-part : (s : State) (p : List ℕ) → AnswersPart (take-reasons s p) (TakesPart s p)
+  pub end-parts : (s : State) → AnswersPart (end-reasons s) (EndsParts s)
   -- a refused answer holds no field; nor does that of a field reader, whose `Refused` holds its number alone; nor do the structs of C
   pub no-field : (r : Unfolded) → number (as-written r) ≢ 0 → fields r ≡ none
   pub no-field-in-c : NoField
@@ -134,7 +153,8 @@ pub record Demand2 : Type 0 where
 -- RULES 15.3: "Take any list of records, directives and comments that the writer accepted, each line ended by a line feed. Replace any one
 -- stretch of that text by other bytes, of any length. Each item whose line, line feed included, lies before the stretch reads back exactly,
 -- given room, first and in order; so does each one that lies after it together with the line feed before it, last and in order. With nothing
--- replaced the whole list reads back."
+-- replaced the whole list reads back. Where the text comes in parts, so does every item whose line has at most 65,536 bytes, among the lines
+-- handed out; a longer line that the damage makes is reported, and belongs to the stretch."
 
 -- The crate promise_survival says this in symbols, for items of any kind and any way of reading. Here is for which.
 
@@ -151,6 +171,16 @@ HandsOut s lines = (n : ℕ) → length s ≤ n → line-steps n s fresh ≡ lin
 abbrev pub whole-text : Reading
 whole-text = record { Event = List ℕ; told = λ lines. lines; Reads = HandsOut }
 
+-- The calls `take_part` with parts of s, however s is cut, from a fresh state on, and then `end_parts`, tell exactly these events: lines that
+-- are handed out, and 25 for one that is too long. So over every hold of 65,536 bytes, whatever it held before.
+abbrev pub TellsInParts : List ℕ → List Event → Type 0
+TellsInParts s events =
+    (d : List ℕ) → length d ≡ hold-length → (lengths : List ℕ) (all : List Event) → Run lengths parts.fresh d s all → all ≡ events
+
+-- so a text is read that comes in parts
+abbrev pub in-parts : Reading
+in-parts = record { Event = Event; told = map shown; Reads = TellsInParts }
+
 -- A line that unfolds is written again, from the sheet and the numbers that it unfolds to: RULES 9.5.
 pub record Again (line : List ℕ) : Type 0 where
   -- the writer refuses them by 24, the sheet is longer than it takes, or by 18, a `CDS` without a phase, and for no other reason
@@ -160,6 +190,12 @@ pub record Again (line : List ℕ) : Type 0 where
 
 pub record Demand3 : Type 0 where
   pub survival : Survival gff3 whole-text
+  -- the same where the text comes in parts: of an item whose line has at most 65,536 bytes its line is handed out
+  pub survival-in-parts : Survival gff3 in-parts
+  pub fits : (l : List ℕ) → length l ≤ hold-length → shown l ≡ run.line l
+  -- since calls in a row tell the lines of the whole text, and 25 for each that does not fit
+  pub same-in-parts : (d : List ℕ) → length d ≡ hold-length → (s : List ℕ) → Sameness d s
+  pub one-call : (s : State) (d d' : List ℕ) (r : Part) → refuses (s .held) (length d) ≡ false → OneCall s d d' r
   -- "the writer accepted": where the writer of an item i is done, having been lent a buffer that held d and now holds d', the item is
   -- accepted as it is meant above, and the buffer starts with its line. `Typed i` is what the types of the writer's parameters say, and
   -- nothing else: src/callers.rt calls each writer with any arguments, and promises the same

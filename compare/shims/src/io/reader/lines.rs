@@ -39,9 +39,12 @@ where
 }
 
 impl Door {
-    /// The inner `read_line` of io/reader.rs, over bytes at hand.
+    /// The inner `read_line` of io/reader.rs.
     #[inline]
-    pub(crate) fn read_line(text: &mut &[u8], buf: &mut Vec<u8>) -> io::Result<usize> {
-        super::read_line(text, buf)
+    pub(crate) fn read_line<R>(reader: &mut R, buf: &mut Vec<u8>) -> io::Result<usize>
+    where
+        R: BufRead,
+    {
+        super::read_line(reader, buf)
     }
 }

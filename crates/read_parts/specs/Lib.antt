@@ -1,0 +1,5 @@
+pub mod Calls
+pub mod Inner
+pub mod Run
+pub mod Sameness
+pub mod State
