@@ -32,6 +32,9 @@ static void lines(void)
     const gff3_line last = gff3_next_line(TEXT("a\r\nb"), line.next);
     const gff3_line done = gff3_next_line(TEXT("a\r\nb"), last.next);
     const gff3_line beyond = gff3_next_line(TEXT("a\r\nb"), SIZE_MAX);
+    const gff3_line behind_blank = gff3_next_line(TEXT("\n\r\n \n\n"), 0);
+    const gff3_line blank = gff3_next_line(TEXT("\n\r\n \n\n"), behind_blank.next);
+    const gff3_line between = gff3_next_line(TEXT("a\r\nb"), 2);
     const gff3_line none = gff3_next_line(NULL, 0, 0);
 
     HOLD(line.done == 0 && line.start == 0 && line.end == 1 && line.next == 3);
@@ -39,6 +42,9 @@ static void lines(void)
     HOLD(done.done == 1 && done.start == 0 && done.end == 0 && done.next == 4);
     HOLD(beyond.done == 1 && beyond.start == 0 && beyond.end == 0 && beyond.next == 4);
     HOLD(none.done == 1 && none.next == 0);
+    HOLD(behind_blank.done == 0 && behind_blank.start == 3 && behind_blank.end == 4 && behind_blank.next == 5);
+    HOLD(blank.done == 1 && blank.start == 0 && blank.end == 0 && blank.next == 6);
+    HOLD(between.done == 0 && between.start == 3 && between.end == 4 && between.next == 4);
 
     HOLD(gff3_kind(TEXT("##a b")) == GFF3_KIND_DIRECTIVE);
     HOLD(gff3_kind(TEXT("#a")) == GFF3_KIND_COMMENT);
@@ -62,7 +68,7 @@ static const gff3_state fresh = {0, GFF3_TAIL_FITS};
 static void parts(void)
 {
     const gff3_part none = gff3_take_part(fresh, text_hold, sizeof text_hold, NULL, 0);
-    const gff3_part begun = TAKE(fresh, "ab\r");
+    gff3_part begun = TAKE(fresh, "ab\r");
     const gff3_part line = TAKE(begun.state, "\nc\n");
     HOLD(none.refused == 0 && none.has_line == 0 && none.taken == 0 && IS_STATE(none.state, 0, GFF3_TAIL_FITS));
     HOLD(begun.refused == 0 && begun.has_line == 0 && begun.length == 0 && begun.taken == 3);
@@ -70,8 +76,13 @@ static void parts(void)
     HOLD(line.refused == 0 && line.has_line == 1 && line.taken == 1 && IS(text_hold, line.length, "ab"));
     HOLD(IS_STATE(line.state, 0, GFF3_TAIL_FITS));
 
-    const gff3_part blank = TAKE(fresh, "\n");
-    HOLD(blank.refused == 0 && blank.has_line == 1 && blank.length == 0 && blank.taken == 1);
+    const gff3_part blank = TAKE(fresh, "\n\r\n\r");
+    HOLD(blank.refused == 0 && blank.has_line == 0 && blank.length == 0 && blank.taken == 4);
+    HOLD(IS_STATE(blank.state, 0, GFF3_TAIL_WAITS));
+    const gff3_part behind_blank = TAKE(blank.state, "\n\nc\nd");
+    HOLD(behind_blank.has_line == 1 && behind_blank.taken == 4 && IS(text_hold, behind_blank.length, "c"));
+    HOLD(END(blank.state).has_line == 1 && IS(text_hold, 1, "\r"));
+    begun = TAKE(fresh, "ab\r");
     const gff3_part kept = TAKE(begun.state, "\r\n");
     HOLD(kept.has_line == 1 && kept.taken == 2 && IS(text_hold, kept.length, "ab\r"));
     const gff3_part other = TAKE(begun.state, "c");

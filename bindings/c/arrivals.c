@@ -14,11 +14,11 @@
 #include <stdio.h>
 #include <unistd.h>
 
-/* What is kept while a text comes: the line that is begun, and how many lines have ended. */
+/* What is kept while a text comes: the line that is begun, and how many line feeds have come, those of blank lines among them. */
 typedef struct {
     uint8_t hold[GFF3_HOLD_LENGTH];
     gff3_state state;
-    uint64_t lines;
+    uint64_t feeds;
 } arriving;
 
 /* Columns 1 and 9 are said as they stand, percent-encoded. Answers the number of the first refusal, or 0. */
@@ -40,19 +40,28 @@ static uint64_t say_record(const uint8_t *line, size_t len)
     return 0;
 }
 
-/* What a call answered: a line, or a line that is too long, or neither yet. */
-static void answered(arriving *text, gff3_part got)
+/* What a call answered: the line of this number, or a line that is too long, or neither yet. */
+static void answered(arriving *text, gff3_part got, uint64_t number)
 {
     uint64_t refused = got.refused;
 
     text->state = got.state;
-    text->lines += got.has_line != 0 || refused != 0;
-    if (got.length > 0 && gff3_kind(text->hold, got.length) == GFF3_KIND_RECORD) {
+    if (got.has_line && gff3_kind(text->hold, got.length) == GFF3_KIND_RECORD) {
         refused = say_record(text->hold, got.length);
     }
     if (refused != 0) {
-        fprintf(stderr, "line %" PRIu64 ": %s\n", text->lines, gff3_reason(refused));
+        fprintf(stderr, "line %" PRIu64 ": %s\n", number, gff3_reason(refused));
     }
+}
+
+static uint64_t count_feeds(const uint8_t *part, size_t len)
+{
+    uint64_t feeds = 0;
+
+    for (size_t at = 0; at < len; at++) {
+        feeds += part[at] == '\n';
+    }
+    return feeds;
 }
 
 /* Says every record whose line ends in the part. A call takes a byte at least, but where it refuses the hold or the state. */
@@ -63,7 +72,8 @@ static void take(arriving *text, const uint8_t *part, size_t len)
     for (size_t at = 0; at < len && taken > 0; at += taken) {
         const gff3_part got = gff3_take_part(text->state, text->hold, sizeof text->hold, part + at, len - at);
         taken = got.taken;
-        answered(text, got);
+        text->feeds += count_feeds(part + at, taken);
+        answered(text, got, text->feeds);
     }
 }
 
@@ -94,7 +104,7 @@ int main(void)
         return 2;
     }
     if (!ferror(stdout)) {
-        answered(&text, gff3_end_parts(text.state, text.hold, sizeof text.hold));
+        answered(&text, gff3_end_parts(text.state, text.hold, sizeof text.hold), text.feeds + 1);
     }
     if (ferror(stdout)) {
         fputs("arrivals: standard output cannot be written\n", stderr);

@@ -7,6 +7,7 @@
 static const char annotation[] =
     "##gff-version 3\n"
     "# a gene of two exons, and lines that are refused\n"
+    "\n"
     "chr%201\tlab\tgene\t1050\t9000\t.\t+\t.\tID=gene%2C1;Name=EDEN\n"
     "chr%201\tlab\texon\t1050\t1500\t.\t+\t.\tParent=gene%2C1;ID=exon1\r\n"
     "chr%201\tlab\texon\t7000\t9000\t.\t+\t.\tParent=gene%2C1\n"
@@ -72,21 +73,30 @@ static uint64_t print_record(const uint8_t *line, size_t len)
     return 0;
 }
 
+/* The number of the line that begins at a place: one more than the line feeds before it, those of blank lines among them. */
+static unsigned line_number(const uint8_t *text, size_t start)
+{
+    unsigned number = 1;
+
+    for (size_t at = 0; at < start; at++) {
+        number += text[at] == '\n';
+    }
+    return number;
+}
+
 int main(void)
 {
     const uint8_t *text = (const uint8_t *)annotation;
     const size_t len = sizeof annotation - 1;
-    unsigned number = 0;
 
     for (gff3_line line = gff3_next_line(text, len, 0); !line.done; line = gff3_next_line(text, len, line.next)) {
         const uint8_t *bytes = text + line.start;
         const size_t count = line.end - line.start;
 
-        number++;
         if (gff3_kind(bytes, count) == GFF3_KIND_RECORD) {
             const uint64_t refused = print_record(bytes, count);
             if (refused != 0) {
-                printf("line %u: %s\n", number, gff3_reason(refused));
+                printf("line %u: %s\n", line_number(text, line.start), gff3_reason(refused));
             }
         }
     }

@@ -10,8 +10,9 @@
  * where `has_line` is 0.
  *
  * A walk over lines, attributes or values goes by a cursor: begin with 0, and hand `next` of each answer to the next call. A cursor
- * beyond its text counts as at its end. `next` is never beyond the text, so `text + next` is a legal pointer. Where a walk is done or
- * refused, `next` is the cursor handed in, or the text's length where that was beyond it, and another call with it answers the same.
+ * beyond its text counts as at its end. `next` is never beyond the text, so `text + next` is a legal pointer. Where the lines are done, it
+ * is the text's length; where a walk over attributes or values is done or refused, the cursor handed in, or the text's length where that
+ * was beyond it. Another call with it answers the same.
  *
  * `refused` is 0, or the number of a refusal, and then every other field is 0, but for `next`, for `taken` and `state` of a text that comes
  * in parts, and for `length` with GFF3_REFUSED_ROOM, which is the length needed. Of several refusals, the one that a function's comment
@@ -24,7 +25,7 @@
 #include <stddef.h>
 #include <stdint.h>
 
-#define GFF3_LINES_VERSION "0.3.0"
+#define GFF3_LINES_VERSION "0.4.0"
 
 #ifdef __cplusplus
 extern "C" {
@@ -76,8 +77,9 @@ const char *gff3_reason(uint64_t refused);
 
 /* ---- lines ---- */
 
-/* The next line from `at` on, without its line feed and one carriage return just before it, and the cursor behind it. `done` is 1 where
- * none is left; `next` is then `text_len`. */
+/* The next line from `at` on, without its line feed and one carriage return just before it, and the cursor behind it. Blank lines, which
+ * have no byte then, are skipped, so that a line handed out has one; a line of spaces is handed out. The number of a line is one more than
+ * the line feeds before `start`. `done` is 1 where no line is left; `next` is then `text_len`. */
 typedef struct {
     uint64_t done;
     size_t start;
@@ -163,10 +165,11 @@ typedef struct {
     gff3_state state;   /* for the next call; with 34 the one handed in, as it was */
 } gff3_part;
 
-/* Takes the part up to its first line feed, that included, or all of it where it has none. An empty part changes nothing. Refusals 34, 25.
- * With 34, which a hold of GFF3_HOLD_LENGTH bytes and a state as above never give, nothing changes and nothing is taken, so that a loop
- * which goes by `taken` has to end there. In every other case one byte at least is taken of a part that has any. With 25 the line is taken
- * up to its line feed, and the state is that of a new line. */
+/* Takes blank lines, and then the part up to its next line feed, that included, or all of it where it has none. An empty part changes
+ * nothing. The number of a line that has ended is that of the line feeds taken so far. Refusals 34, 25. With 34, which a hold of
+ * GFF3_HOLD_LENGTH bytes and a state as above never give, nothing changes and nothing is taken, so that a loop which goes by `taken` has
+ * to end there. In every other case one byte at least is taken of a part that has any. With 25 the line is taken up to its line feed, and
+ * the state is that of a new line. */
 gff3_part gff3_take_part(gff3_state state, uint8_t *hold, size_t hold_len, const uint8_t *part, size_t part_len);
 
 /* The end of the text: the line that is begun, with a carriage return at its end if it has one. The state is then that of a new text, but

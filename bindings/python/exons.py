@@ -25,9 +25,12 @@ GFF3_KIND_RECORD = 2
 
 
 def lines(text):
+    """Each line, and its number: one more than the line feeds before it, those of blank lines among them."""
+    number, counted = 1, 0
     line = gff3.gff3_next_line(text, len(text), 0)
     while not line.done:
-        yield text[line.start : line.end]
+        number, counted = number + text.count(b"\n", counted, line.start), line.start
+        yield number, text[line.start : line.end]
         line = gff3.gff3_next_line(text, len(text), line.next)
 
 
@@ -43,7 +46,7 @@ def first_texts(sheet, count):
 with open(sys.argv[2], "rb") as file:
     text = file.read()
 sheet = create_string_buffer(1 << 20)
-for number, line in enumerate(lines(text), 1):
+for number, line in lines(text):
     if gff3.gff3_kind(line, len(line)) != GFF3_KIND_RECORD:
         continue
     record = gff3.gff3_unfold(line, len(line), sheet, len(sheet))

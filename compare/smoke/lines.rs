@@ -17,6 +17,15 @@ pub fn split(samples: &mut Samples) {
         ("a\n \t\n", r"['a', ' \t']"),
         ("a\rb\n", r"['a\rb']"),
     ] {
+        samples.of(text, lines::read_all_lines(text.as_bytes()), expected);
+    }
+
+    samples.title("lines of a text that have a byte (inner read_line, empty ones left out)");
+
+    for (text, expected) in [
+        ("\n\r\n\n", "[]"),
+        ("\n \n\r\n\na\r\n\r\r\n\n\r", r"[' ', 'a', '\r', '\r']"),
+    ] {
         samples.of(text, lines::read_lines(text.as_bytes()), expected);
     }
 

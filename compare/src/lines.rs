@@ -15,7 +15,8 @@ const MARKS: &[u8] = b"#a \t\n\x0b\x0c\r\x85\xa0";
 
 pub fn every(report: &mut Report, len: usize) {
     if len <= 11 {
-        texts::every(b"a\r\n", len, |text| all_cursors(report, text));
+        let alphabet: &[u8] = if len <= 8 { b"a \r\n" } else { b"a\r\n" };
+        texts::every(alphabet, len, |text| all_cursors(report, text));
     }
 
     if len <= 5 {
@@ -26,8 +27,10 @@ pub fn every(report: &mut Report, len: usize) {
     }
 }
 
-/// A line end at each place of texts of each length, from each cursor.
+/// A line end at each place of texts of each length, from each cursor; and blank lines, few and many.
 pub fn sweep(report: &mut Report) {
+    blank_lines(report);
+
     for len in 0..=70 {
         let mut text = vec![b'a'; len];
 
@@ -53,6 +56,27 @@ pub fn sweep(report: &mut Report) {
             }
         }
     }
+}
+
+/// Blank lines, up to forty and five million, before a line, behind one and alone.
+fn blank_lines(report: &mut Report) {
+    for (before, behind) in [
+        (&b""[..], &b""[..]),
+        (b"a\r\n", b"b\n"),
+        (b" \n", b"\r"),
+        (b"\r\r\n", b"\ra"),
+    ] {
+        for blank in [&b"\n"[..], b"\r\n", b"\n\r\n"] {
+            for count in 0..=40 {
+                all_cursors(report, &[before, &blank.repeat(count), behind].concat());
+            }
+        }
+    }
+
+    let mut text = b"\n".repeat(5_000_000);
+    report.check(Call::NextLine, Case::of(&text), all_lines);
+    text.push(b'a');
+    report.check(Call::NextLine, Case::of(&text), all_lines);
 }
 
 pub fn random(report: &mut Report, dice: &mut Dice) {
@@ -104,16 +128,23 @@ fn one_line(report: &mut Report, line: &[u8]) {
     report.check(Call::Directive, Case::of(line), directive);
 }
 
-/// From a cursor, as the Rust reads what is left from there. That a cursor beyond the text counts as at its end is RULES 1.5.
+/// From a cursor, as the Rust reads what is left from there, its empty lines left out. That a cursor beyond the text counts as at its end
+/// is RULES 1.5.
 fn next_line(desk: &mut Desk, case: Case<'_>) -> Verdict {
     By::rust_if(case.number <= case.text.len()).says(line_from(desk, case))
 }
 
 fn line_from(desk: &mut Desk, case: Case<'_>) -> Compared {
     let end = case.text.len();
-    let at = case.number.min(end);
+    let mut at = case.number.min(end);
     let mut line = Vec::new();
-    let taken = rust::read_line(&mut &case.text[at..], &mut line);
+    let mut taken = rust::read_line(&mut &case.text[at..], &mut line);
+
+    while taken > 0 && line.is_empty() {
+        at += taken;
+        taken = rust::read_line(&mut &case.text[at..], &mut line);
+    }
+
     let lent = desk.text(case.text);
     let answer = ours::next_line(lent, case.number);
 

@@ -29,14 +29,15 @@ const OFFER: usize = 3;
 /// How a line ends, and a last line.
 const ENDINGS: [&[u8]; 7] = [b"\n", b"\r\n", b"\r\r\n", b"\ra\n", b"", b"\r", b"\r\r"];
 
-const MARKS: &[u8] = b"a\r\n";
+const MARKS: &[u8] = b"a \r\n";
 
-/// Every short text in all cuts; longer ones cut at each place.
+/// Every short text in all cuts; longer ones, without spaces, cut at each place.
 pub fn every(report: &mut Report, len: usize) {
+    let alphabet: &[u8] = if len <= 6 { MARKS } else { b"a\r\n" };
     let mut turn = 0;
 
     if len <= 7 {
-        texts::every(MARKS, len, |text| {
+        texts::every(alphabet, len, |text| {
             for mask in 0..1_u32 << len.saturating_sub(1) {
                 let cuts: Vec<usize> = (1..len).filter(|at| mask >> (at - 1) & 1 != 0).collect();
                 turn += 1;
@@ -44,7 +45,7 @@ pub fn every(report: &mut Report, len: usize) {
             }
         });
     } else if len <= 9 {
-        texts::every(MARKS, len, |text| {
+        texts::every(alphabet, len, |text| {
             for at in 1..len {
                 turn += 1;
                 one_run(report, text, &[at], Way::of(turn));
@@ -117,8 +118,34 @@ fn one_run(report: &mut Report, text: &[u8], cuts: &[usize], way: Way) {
 
 pub fn sweep(report: &mut Report) {
     calls::sweep(report);
+    blank_lines(report);
     beside_limit(report);
     overlong(report);
+}
+
+/// Blank lines, few and many, alone, before a line and behind one, cut at each place and in parts of one length.
+fn blank_lines(report: &mut Report) {
+    let mut turn = 0;
+
+    for (before, behind) in [
+        (&b""[..], &b""[..]),
+        (b"a\r\n", b"b\n"),
+        (b" \n", b"\r"),
+        (b"\r\r\n", b"\ra"),
+    ] {
+        for blank in [&b"\n"[..], b"\r\n", b"\n\r\n"] {
+            for count in [1, 2, 3, 20, HOLD] {
+                let text = [before, &blank.repeat(count), behind].concat();
+                let places = (0..=text.len().min(30)).map(|at| vec![at]);
+                let lengths = [1 + count / 40, 4096, HOLD - 1, HOLD].map(|len| parts_of(&text, len));
+
+                for cuts in places.chain(lengths) {
+                    turn += 1;
+                    one_run(report, &text, &cuts, Way::of(turn));
+                }
+            }
+        }
+    }
 }
 
 /// Lines about as long as a hold, alone and between others.

@@ -47,10 +47,10 @@ const LONG: [(usize, &str, usize); 13] = [
     (HOLD + 500, "\r\r\n\r\na", 1000),
 ];
 
-/// Every text of up to four bytes, each an `a`, a carriage return or a line feed.
+/// Every text of up to four bytes, each an `a`, a space, a carriage return or a line feed.
 fn short() -> impl Iterator<Item = Vec<u8>> {
     (0..=4).flat_map(|len| {
-        (0..3_usize.pow(len)).map(move |n| (0..len).map(|i| b"a\r\n"[n / 3_usize.pow(i) % 3]).collect())
+        (0..4_usize.pow(len)).map(move |n| (0..len).map(|i| b"a \r\n"[n / 4_usize.pow(i) % 4]).collect())
     })
 }
 

@@ -14,7 +14,23 @@ pub fn lines(list: &mut List) {
     list.title("L TEXT: each line, and a dot");
     let mut dice = Dice::new(5);
     let mut texts: Vec<Vec<u8>> = [
-        "", "\n", "\r\n", "\r", "a", "a\r", "a\n", "a\r\n", "a\r\r\n", "\n\n", "a\nb", "a\r\nb\r", "\ra\n",
+        "",
+        "\n",
+        "\r\n",
+        "\r",
+        "a",
+        "a\r",
+        "a\n",
+        "a\r\n",
+        "a\r\r\n",
+        "\n\n",
+        "a\nb",
+        "a\r\nb\r",
+        "\ra\n",
+        " \n",
+        "\n\r",
+        "\r\r\n",
+        "\n \n\r\n\na\r\n\r\r\n\n\r",
     ]
     .iter()
     .map(|s| s.as_bytes().to_vec())

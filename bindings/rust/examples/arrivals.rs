@@ -33,29 +33,51 @@ fn main() -> ExitCode {
 
 fn say_records(input: impl Read) -> io::Result<()> {
     let mut out = io::stdout().lock();
-    let mut reader = Reader::new(input);
-    let mut number: u64 = 0;
+    let mut reader = Reader::new(Counted { input, feeds: 0 });
     while let Some(line) = reader.next_line() {
         let said = match line {
             Ok(line) => said(line),
             Err(ReadError::Refused(refusal)) => Err(refusal),
             Err(ReadError::Io(error)) => return Err(error),
         };
-        number += 1;
         match said {
             Ok(said) => {
                 out.write_all(&said)?;
                 out.flush()?;
             }
-            Err(refusal) => eprintln!("line {number}: {refusal}"),
+            Err(refusal) => eprintln!("line {}: {refusal}", line_number(&reader)),
         }
     }
     Ok(())
 }
 
-/// What is said of a line: nothing where it is no record, or blank. Columns 1 and 9 are said as they stand, percent-encoded.
+/// An input, and how many line feeds have come from it.
+struct Counted<R> {
+    input: R,
+    feeds: usize,
+}
+
+impl<R: Read> Read for Counted<R> {
+    fn read(&mut self, buffer: &mut [u8]) -> io::Result<usize> {
+        let count = self.input.read(buffer)?;
+        self.feeds += feeds(&buffer[..count]);
+        Ok(count)
+    }
+}
+
+fn feeds(bytes: &[u8]) -> usize {
+    bytes.iter().filter(|byte| **byte == b'\n').count()
+}
+
+/// The number of the line that was answered last: so many line feeds are taken, those of blank lines and its own among them. A last line
+/// need not have one.
+fn line_number<R>(reader: &Reader<Counted<R>>) -> usize {
+    reader.get_ref().feeds - feeds(reader.buffer()) + usize::from(reader.is_cut())
+}
+
+/// What is said of a line: nothing where it is no record. Columns 1 and 9 are said as they stand, percent-encoded.
 fn said(line: Line) -> Result<Vec<u8>, Refusal> {
-    if line.kind() != Kind::Record || line.bytes().is_empty() {
+    if line.kind() != Kind::Record {
         return Ok(Vec::new());
     }
     let judged = judge(line.bytes())?;

@@ -33,17 +33,23 @@ fn main() -> ExitCode {
 
 /// A line that is refused is said so, and the others are read on.
 fn print_exons(text: &[u8], out: &mut impl Write) -> io::Result<()> {
-    for (i, line) in lines(text).enumerate() {
-        if line.kind() != Kind::Record || line.bytes().is_empty() {
+    let mut lines = lines(text);
+    while let Some(line) = lines.next() {
+        if line.kind() != Kind::Record {
             continue;
         }
         match line.record().and_then(|record| exon(&record)) {
             Ok(None) => {}
             Ok(Some(exon)) => out.write_all(&exon)?,
-            Err(refusal) => writeln!(out, "line {}: {refusal}", i + 1)?,
+            Err(refusal) => writeln!(out, "line {}: {refusal}", line_count(&text[..lines.at()]))?,
         }
     }
     Ok(())
+}
+
+/// How many lines a text has, blank ones too: up to the end of a line, that is the line's number.
+fn line_count(text: &[u8]) -> usize {
+    text.split_inclusive(|byte| *byte == b'\n').count()
 }
 
 /// The line that is printed of an exon.

@@ -33,7 +33,7 @@ fn main() -> ExitCode {
     }
 }
 
-/// A line that is refused is said so in its place.
+/// A line that is refused is said so in its place. Blank lines are left out.
 fn rename(text: &[u8], old: &[u8], new: &[u8], out: &mut impl Write) -> io::Result<()> {
     let mut written = Vec::new();
     for line in lines(text) {
@@ -48,7 +48,7 @@ fn rename(text: &[u8], old: &[u8], new: &[u8], out: &mut impl Write) -> io::Resu
 }
 
 fn renamed_into(line: Line, old: &[u8], new: &[u8], out: &mut Vec<u8>) -> Result<(), Refusal> {
-    if line.kind() == Kind::Record && !line.bytes().is_empty() {
+    if line.kind() == Kind::Record {
         let mut sheet = Sheet::of_line(line.bytes())?;
         if sheet.reference_sequence_name == old {
             sheet.reference_sequence_name = new.to_vec();

@@ -6,13 +6,13 @@ use crate::{Record, Refusal, ffi};
 
 /// The lines of a text, in order.
 ///
-/// A line feed ends a line, and one carriage return just before it is removed. A last line without a line feed counts if it has a byte,
-/// and keeps a carriage return. Every other line is handed out, blank ones too.
+/// A line feed ends a line, and one carriage return just before it is removed; a last line without a line feed keeps a carriage return.
+/// Blank lines, which have no byte then, are skipped. Every other line is handed out, one of spaces too.
 ///
 /// ```
-/// let lines: Vec<_> = gff3_lines::lines(b"a\r\n\nb").map(|line| line.bytes()).collect();
+/// let lines: Vec<_> = gff3_lines::lines(b"a\r\n\n\r\n \nb").map(|line| line.bytes()).collect();
 ///
-/// assert_eq!(lines, [&b"a"[..], b"", b"b"]);
+/// assert_eq!(lines, [b"a", b" ", b"b"]);
 /// ```
 pub fn lines(text: &[u8]) -> Lines<'_> {
     Lines::starting_at(text, 0)
@@ -49,13 +49,14 @@ impl<'a> Lines<'a> {
         }
     }
 
-    /// Where the next line begins, or the text's end where none is left.
+    /// The place behind the line that was handed out last, where blank lines may stand before the next; behind `None`, the text's end.
     ///
     /// ```
-    /// let mut lines = gff3_lines::lines(b"a\nb");
+    /// let mut lines = gff3_lines::lines(b"a\n\nb\n\n");
     ///
-    /// assert_eq!(lines.by_ref().count(), 2);
-    /// assert_eq!(lines.at(), 3);
+    /// assert_eq!((lines.next(), lines.at()), (Some(gff3_lines::Line(b"a")), 2));
+    /// assert_eq!((lines.next(), lines.at()), (Some(gff3_lines::Line(b"b")), 5));
+    /// assert_eq!((lines.next(), lines.at()), (None, 6));
     /// ```
     pub fn at(&self) -> usize {
         self.at
@@ -68,10 +69,10 @@ impl<'a> Iterator for Lines<'a> {
     fn next(&mut self) -> Option<Line<'a>> {
         // SAFETY: the text is a slice.
         let line = unsafe { ffi::gff3_next_line(self.text.as_ptr(), self.text.len(), self.at) };
+        self.at = line.next;
         if line.done != 0 {
             return None;
         }
-        self.at = line.next;
         Some(Line(&self.text[line.start..line.end]))
     }
 }

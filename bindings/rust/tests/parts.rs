@@ -60,9 +60,9 @@ fn by_reader(reader: &mut Reader<impl Read>) -> Vec<Answer> {
     answers
 }
 
-/// Every text of so many bytes out of CR, LF and `a`.
+/// Every text of so many bytes out of CR, LF, space and `a`.
 fn texts(length: u32) -> impl Iterator<Item = Vec<u8>> {
-    (0..3_usize.pow(length)).map(move |number| (0..length).map(|i| b"\r\na"[number / 3_usize.pow(i) % 3]).collect())
+    (0..4_usize.pow(length)).map(move |number| (0..length).map(|i| b"\r\n a"[number >> (2 * i) & 3]).collect())
 }
 
 /// The text, cut behind each byte whose bit is set.
@@ -217,7 +217,6 @@ fn a_long_line_is_refused_once_and_reading_goes_on() {
                 Ok(b"a".to_vec()),
                 Err(Refusal::LineTooLong),
                 Ok(b"b".to_vec()),
-                Ok(Vec::new()),
                 Err(Refusal::LineTooLong),
             ];
             assert_eq!(by_parts(&mut Parts::new(), &[&text]), answers);
@@ -236,8 +235,37 @@ fn a_part_is_moved_on_past_one_line() {
     assert_eq!(part, b"b\r\n\nc");
     assert_eq!(parts.take(&mut part), Some(Ok(Line(b"b"))));
     assert_eq!(part, b"\nc");
-    assert_eq!(parts.take(&mut part), Some(Ok(Line(b""))));
-    assert_eq!(part, b"c");
+    assert_eq!(parts.take(&mut part), None);
+    assert_eq!(part, b"");
+    assert_eq!(parts.end(), Some(Ok(Line(b"c"))));
+}
+
+/// Blank lines, without a look at `lines`: cut in one, between two, and behind all.
+#[test]
+fn blank_lines_are_skipped_in_one_call() {
+    let mut parts = Parts::new();
+    let line = |bytes: &[u8]| Ok(bytes.to_vec());
+
+    assert_eq!(taken(&mut parts, b"\n\r\n\n"), []);
+    assert!(!parts.is_begun());
+    assert_eq!(taken(&mut parts, b"\r"), []);
+    assert!(parts.is_begun());
+    assert_eq!(taken(&mut parts, b"\n\r\na\n\n \n\n"), [line(b"a"), line(b" ")]);
+    assert!(!parts.is_begun());
+    assert_eq!(taken(&mut parts, b"\r\r\n\r"), [line(b"\r")]);
+    assert_eq!(parts.end().map(owned), Some(line(b"\r")));
+    assert_eq!(taken(&mut parts, &b"\n".repeat(3 * MOST)), []);
+    assert_eq!(parts.end(), None);
+}
+
+#[test]
+fn a_part_of_blank_lines_is_taken_by_one_call() {
+    let mut parts = Parts::new();
+    let text = [b"\r\n".repeat(MOST), b"a\n\n".to_vec()].concat();
+    let mut part = &text[..];
+
+    assert_eq!(parts.take(&mut part), Some(Ok(Line(b"a"))));
+    assert_eq!(part, b"\n");
     assert_eq!(parts.take(&mut part), None);
     assert_eq!(part, b"");
 }
@@ -266,7 +294,7 @@ fn what_is_ended_is_used_again() {
         by_parts(&mut parts, &[first]);
         assert!(!parts.is_begun());
         assert_eq!(parts.end(), None);
-        assert_eq!(by_parts(&mut parts, &[b"\nb"]), [Ok(Vec::new()), Ok(b"b".to_vec())]);
+        assert_eq!(by_parts(&mut parts, &[b"\nb"]), [Ok(b"b".to_vec())]);
     }
 }
 
@@ -346,7 +374,7 @@ fn an_input_that_has_ended_is_asked_again_behind_none() {
 
     assert_eq!(by_reader(&mut reader), [Ok(b"a\r".to_vec())]);
     assert_eq!(reader.get_ref().asked, 2);
-    assert_eq!(by_reader(&mut reader), [Ok(Vec::new()), Ok(b"b".to_vec())]);
+    assert_eq!(by_reader(&mut reader), [Ok(b"b".to_vec())]);
     assert_eq!(by_reader(&mut reader), []);
     assert_eq!(by_reader(&mut reader), [Ok(b"c".to_vec())]);
     assert_eq!(by_reader(&mut reader), []);

@@ -1,8 +1,8 @@
 //! What the readers answer at their edges.
 
 use gff3_lines::{
-    Attributes, Bounds, Build, Column, Directive, Kind, Line, Lines, Phase, Record, Refusal, Region, Set, Strand,
-    Values, Version, decode, encode, lines,
+    Attributes, Bounds, Build, Column, Directive, Kind, Line, Lines, Parts, Phase, Record, Refusal, Region, Set,
+    Strand, Values, Version, decode, encode, lines,
 };
 
 fn bytes<'a>(lines: Lines<'a>) -> Vec<&'a [u8]> {
@@ -17,15 +17,47 @@ fn line(columns: [&str; 9]) -> String {
 #[test]
 fn lines_end_at_line_feeds() {
     assert_eq!(bytes(lines(b"")), [] as [&[u8]; 0]);
-    assert_eq!(bytes(lines(b"\n\n")), [b"", b""]);
     assert_eq!(bytes(lines(b"a\r\nb\r")), [&b"a"[..], b"b\r"]);
     assert_eq!(bytes(lines(b"a\r\r\n")), [b"a\r"]);
-    assert_eq!(bytes(Lines::starting_at(b"\r\n", 1)), [b""]);
     assert_eq!(bytes(Lines::starting_at(b"\r\n", usize::MAX)), [] as [&[u8]; 0]);
 }
 
 #[test]
+fn blank_lines_are_skipped() {
+    let none: [&[u8]; 0] = [];
+
+    assert_eq!(bytes(lines(b"\n\n")), none);
+    assert_eq!(bytes(lines(b"\r\n\n\r\n")), none);
+    assert_eq!(bytes(lines(b"\n \n\r\n\na\r\n\r\r\n\n\r")), [b" ", b"a", b"\r", b"\r"]);
+    assert_eq!(bytes(Lines::starting_at(b"x\r\ny", 1)), [b"y"]);
+    assert_eq!(bytes(Lines::starting_at(b"x\r\ny", 2)), [b"y"]);
+    assert_eq!(bytes(Lines::starting_at(b"\r\n", 1)), none);
+    assert_eq!(Line(b"").kind(), Kind::Record);
+    assert_eq!(Line(b"").record(), Err(Refusal::Columns));
+}
+
+#[test]
+fn a_hundred_million_blank_lines_are_skipped_at_once() {
+    let text = [b"\n".repeat(100_000_000), b"a".to_vec()].concat();
+    assert_eq!(lines(&text).next(), Some(Line(b"a")));
+    assert_eq!(lines(&text[..100_000_000]).next(), None);
+
+    let mut parts = Parts::new();
+    let mut part = &text[..];
+    assert_eq!(parts.take(&mut part), None);
+    assert_eq!(part, b"");
+    assert_eq!(parts.end(), Some(Ok(Line(b"a"))));
+}
+
+#[test]
 fn a_walk_that_is_done_stays_done() {
+    for text in [&b"a\nb"[..], b"\n\n\n"] {
+        let mut lines = Lines::starting_at(text, 2);
+        lines.by_ref().for_each(drop);
+        assert_eq!((lines.next(), lines.at()), (None, 3));
+        assert_eq!((lines.next(), lines.at()), (None, 3));
+    }
+
     let mut lines = Lines::starting_at(b"a\nb", usize::MAX);
     assert_eq!((lines.next(), lines.at()), (None, 3));
     assert_eq!((lines.next(), lines.at()), (None, 3));

@@ -19,15 +19,12 @@ pub fn take_part(state: State, hold: &mut [u8], part: &[u8]) -> Part {
     now.tail = now.tail.min(LONG);
 
     for (at, &byte) in part.iter().enumerate() {
-        if byte == b'\n' {
-            return if now.tail == LONG {
-                too_long(at + 1)
-            } else {
-                line(now.held, at + 1)
-            };
-        }
-
-        now = step(now, hold, byte);
+        now = match (byte, now) {
+            (b'\n', State { tail: LONG, .. }) => return too_long(at + 1),
+            (b'\n', State { held: 0, .. }) => State::default(),
+            (b'\n', State { held, .. }) => return line(held, at + 1),
+            _ => step(now, hold, byte),
+        };
     }
 
     Part {

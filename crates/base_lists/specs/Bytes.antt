@@ -52,8 +52,8 @@ lf = 10
 abbrev pub cr : ℕ
 cr = 13
 
-abbrev pub blank : ℕ
-blank = 32
+abbrev pub sp : ℕ
+sp = 32
 
 -- `#` `%` `&` `+` `,` `-` `.` `;` `=` `?`
 abbrev pub hash : ℕ

@@ -3,12 +3,12 @@
 use Prim.Native.Nat.{ℕ}
 use mathlib.Core.Bool.{Bool, not}
 use mathlib.Core.List.{List, [], _∷_}
-use Rattle.base_lists.specs.Bytes.{among, tab, lf, cr, blank}
+use Rattle.base_lists.specs.Bytes.{among, tab, lf, cr, sp}
 use Rattle.base_scan.specs.declared.place.Place.{Place}
 use Rattle.base_scan.specs.Find.{seek}
 
 unfoldable pub is-space : ℕ → Bool
-is-space x = among (blank ∷ tab ∷ lf ∷ 12 ∷ cr ∷ []) x
+is-space x = among (sp ∷ tab ∷ lf ∷ 12 ∷ cr ∷ []) x
 
 abbrev pub is-ink : ℕ → Bool
 is-ink x = not (is-space x)

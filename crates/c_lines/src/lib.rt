@@ -41,7 +41,7 @@ pub struct Gff3DirectiveText {
     pub value_end: usize,
 }
 
-// The next line from `at` on, and the cursor behind it; where the walk is done, the text's end.
+// The next line from `at` on, behind blank ones, and the cursor behind it; where no line is left, the text's end.
 #[no_mangle]
 pub extern "C" fn gff3_next_line(text: &[u8], at: usize) -> Gff3Line
     ensures { λ r. ⌜ r ≡ c-next-line (now (text .entry)) at ⌝ }
@@ -57,7 +57,7 @@ pub extern "C" fn gff3_next_line(text: &[u8], at: usize) -> Gff3Line
             done: 1,
             start: 0,
             end: 0,
-            next: base_numbers::least(at, text.len()),
+            next: text.len(),
         },
     }
 }

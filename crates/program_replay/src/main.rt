@@ -13,6 +13,8 @@ use program_replay_words::case;
 use program_replay_words::show;
 use read_lines::Cursor;
 use read_lines::Next;
+ghost use Prim.Native.Nat.{_<_};
+ghost use lib.ListN.{length};
 
 // A comment of the list is its own answer.
 fn comment(line: &[u8]) {
@@ -54,11 +56,10 @@ fn answer<'a>(letter: u8, line: &'a [u8], text: &'a [u8], other: &'a [u8]) {
     }
 }
 
-// One line of the list: a blank one fills up a block, and has no answer.
-fn turn(line: &[u8]) {
-    if line.len() == 0 {
-        return;
-    }
+// One line of the list.
+fn turn(line: &[u8])
+    requires { ⌜ 0 < length (now line) ⌝ }
+{
     let mut text = [0u8; 512];
     let n = case::unhex(line, 1, &mut text);
     let mut other = [0u8; 512];
@@ -72,7 +73,7 @@ fn turn(line: &[u8]) {
     io::write_all(1, b"\n");
 }
 
-// The cases of a block, which holds whole lines.
+// The cases of a block, which holds whole lines, and blank ones that fill it up.
 fn replay(cases: &[u8]) {
     let mut cursor = Cursor::new();
     loop {

@@ -20,14 +20,14 @@ use Rattle.sheet_form.specs.Sheet.{read-attribute, read-sheet, ended, count-of,
 use Rattle.read_judge.specs.Judge as reading
 use Rattle.write_measure.specs.Record as writing
 use Rattle.read_kind.specs.Kind.{kind}
-use Rattle.read_lines.specs.Lines.{chomped, lines-after, text}
+use Rattle.read_lines.specs.Lines.{chomped, unless-blank, lines-after, text}
 use Rattle.program_rewrite.specs.Rewrite.{record-again, line-rewritten, rewritten}
 
 -- the input's third line is `x`; the output has `b;c` as `b%3Bc`, and `! 1`
 sample : rewritten (ascii "##gff-version 3\nsq0\tlab\tgene\t8\t13\t.\t+\t.\ta=1;b;c=2\nx\n")
     ≡ ascii "##gff-version 3\nsq0\tlab\tgene\t8\t13\t.\t+\t.\ta=1;b%3Bc=2\n! 1\n"
 unfolding index seek same is-dot all-digits some-digits digits-value-after numeral digits is-hex hex-value hex-digit decoded escape piece
-    encoded escapes kind chomped lines-after text past-tab ends place-in strand-number phase-number position-of strand-of phase-of sans
+    encoded escapes kind chomped unless-blank lines-after text past-tab ends place-in strand-number phase-number position-of strand-of phase-of sans
     is-exponent is-fraction is-score pieces-after prefixed joined column9.tag-after column9.value-after column9.walk-from
     column9.attribute column9.attributes written column read-count times times-some counted counted-some read-attribute read-sheet ended
     count-of section-of counted-of attribute-of sheet-of reading.score-of-token reading.unfolded reading.numbers-of writing.record-reasons

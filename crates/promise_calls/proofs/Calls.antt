@@ -39,6 +39,7 @@ pub calls : Calls
 calls =
     record {
       cursor = told (λ M. read-lines.Cursor.new.Met.met);
+      past-blank = told (λ M. read-lines.past_blank.Met.met);
       next-line = told (λ M. read-lines.next_line.Met.met);
       state = told (λ M. read-parts.state.State.new.Met.met);
       take-part = record { does = λ M. read-parts.take_part.Met.met; one = leaves-one };

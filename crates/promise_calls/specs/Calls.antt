@@ -9,6 +9,7 @@ use Rattle.write_decimals.specs.Decimal.{decimal}
 use Rattle.percent_coding.specs.Percent.{decoded, encoded}
 use Rattle.percent_sets.specs.Sets.{escapes}
 use Rattle.percent_encode.specs.Encode.{encode-reasons}
+use Rattle.read_lines.specs.Blank as blank
 use Rattle.read_lines.specs.Step as lines
 use Rattle.read_parts.specs.State as parts
 use Rattle.read_parts.specs.Calls.{TakesPart, EndsParts}
@@ -57,6 +58,8 @@ pub record Calls : Type 2 where
   -- RULES 1: lines
   pub cursor : Gives read-lines.Cursor.new.ended read-lines.Cursor.new.Symbol.routine
       (λ _ a. lines.fresh)
+  pub past-blank : Gives read-lines.past_blank.ended read-lines.past_blank.Symbol.routine
+      (λ _ (text, (from, _)). blank.past-blank (now text) from)
   pub next-line : Gives read-lines.next_line.ended read-lines.next_line.Symbol.routine
       (λ _ (text, (cursor, _)). lines.next-line (now text) cursor)
   pub state : Gives read-parts.state.State.new.ended read-parts.state.State.new.Symbol.routine

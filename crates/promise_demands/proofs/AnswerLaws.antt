@@ -30,7 +30,7 @@ use Rattle.read_record.proofs.UnfoldLaws.{unfolds-one, wrote-unfolds}
 use Rattle.read_parts.specs.declared.state.State.{State}
 use Rattle.read_parts.specs.declared.Part.{Part}
 use Rattle.read_parts.specs.State.{is-long, grown-hold, settled, settled-hold}
-use Rattle.read_parts.specs.Calls.{part-refusal, refuses, Leaves, of-line, ends-long, take-part, take-reasons, TakesPart, ended, end-reasons, EndsParts}
+use Rattle.read_parts.specs.Calls.{part-refusal, refuses, Leaves, begun, unskipped, of-line, ends-long, take-part, take-reasons, TakesPart, ended, end-reasons, EndsParts}
 use Rattle.read_parts.proofs.CallLaws.{leaves-one}
 use Rattle.read_parts.proofs.ReasonLaws.{leaves-number, leaves-same, take-part-number, ended-number}
 use Rattle.promise_demands.specs.Item.{Item, feature, directive, comment, reasons-of}
@@ -102,7 +102,7 @@ module _ (s : State) (answer : Part) (hold : List ℕ → List ℕ) (long : Bool
 
 pub take-part-answers : (s : State) (p : List ℕ) → AnswersPart (take-reasons s p) (TakesPart s p)
 take-part-answers s p =
-    parts-answers s (take-part s p) (grown-hold s (of-line p)) (ends-long s p) (take-part-number s p)
+    parts-answers s (take-part s p) (grown-hold (begun s p) (of-line (unskipped s p))) (ends-long s p) (take-part-number s p)
 
 pub end-parts-answers : (s : State) → AnswersPart (end-reasons s) (EndsParts s)
 end-parts-answers s =

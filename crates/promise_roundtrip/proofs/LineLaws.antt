@@ -133,7 +133,12 @@ module _ {encode : Set → List ℕ → List ℕ} (coder : (set : Set) → Coder
   columns-no-tab = columns-lack tab (omega arith) refl refl
 
   pub line-one : OneLine (sheet-line encode (some (a .sheet)) start end strand phase)
-  line-one = (line-lacks lf (omega arith) refl refl (omega arith), line-lacks cr (omega arith) refl refl (omega arith))
+  unfolding columns
+  line-one = (
+    line-lacks lf (omega arith) refl refl (omega arith),
+    line-lacks cr (omega arith) refl refl (omega arith),
+    simp length-append (omega arith),
+  )
 
   pub line-kind : kind (sheet-line encode (some (a .sheet)) start end strand phase) ≡ Record
   unfolding columns

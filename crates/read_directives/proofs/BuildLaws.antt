@@ -6,7 +6,7 @@ use mathlib.Core.Logic.{_≢_}
 use mathlib.Core.Bool.{false}
 use mathlib.Core.List.{List, [], _∷_, _++_}
 use lib.ListN.{length}
-use Rattle.base_lists.specs.Bytes.{Every, blank}
+use Rattle.base_lists.specs.Bytes.{Every, sp}
 use Rattle.base_scan.specs.Find.{index}
 use Rattle.base_scan.specs.Part.{text-at}
 use Rattle.base_words.specs.Word.{is-space}
@@ -31,12 +31,12 @@ build-is (x ∷ s) h = refl
 
 pub build-reads : (source name : List ℕ) → Every (λ x. is-space x ≡ false) source → 0 < length source
     → Every (λ x. is-space x ≡ false) name → 0 < length name
-    → (build-of (source ++ blank ∷ name) ≡ Is (record { source = record { start = 0; end = length source }; name = record { start = length source + 1; end = length source + 1 + length name } }))
-    × (text-at (record { start = 0; end = length source }) (source ++ blank ∷ name) ≡ source)
-    × (text-at (record { start = length source + 1; end = length source + 1 + length name }) (source ++ blank ∷ name) ≡ name)
+    → (build-of (source ++ sp ∷ name) ≡ Is (record { source = record { start = 0; end = length source }; name = record { start = length source + 1; end = length source + 1 + length name } }))
+    × (text-at (record { start = 0; end = length source }) (source ++ sp ∷ name) ≡ source)
+    × (text-at (record { start = length source + 1; end = length source + 1 + length name }) (source ++ sp ∷ name) ≡ name)
 unfolding index is-space
 build-reads source name inked some inked' some' =
-    let s = word-first source inked some (blank ∷ name) refl in
+    let s = word-first source inked some (sp ∷ name) refl in
     let n = word-last name inked' some' source (length source) refl in
-    let long : length (source ++ blank ∷ name) ≢ 0 = λ z. s .some (sym z) in
+    let long : length (source ++ sp ∷ name) ≢ 0 = λ z. s .some (sym z) in
     (rw build-is (sym (next-then _ _ s (next-then _ _ n refl))), s .reads, n .reads)

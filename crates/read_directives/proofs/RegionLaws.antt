@@ -6,7 +6,7 @@ use mathlib.Core.Logic.{_≢_}
 use mathlib.Core.Bool.{false}
 use mathlib.Core.List.{List, [], _∷_, _++_, append-assoc}
 use lib.ListN.{length, length-append}
-use Rattle.base_lists.specs.Bytes.{Every, blank}
+use Rattle.base_lists.specs.Bytes.{Every, sp}
 use Rattle.base_scan.specs.Find.{index}
 use Rattle.base_scan.specs.Part.{text-at}
 use Rattle.base_words.specs.Word.{is-space}
@@ -32,15 +32,15 @@ region-is (x ∷ s) h = refl
 
 pub region-reads : (name : List ℕ) (start end : ℕ) → Every (λ x. is-space x ≡ false) name → 0 < length name
     → 1 ≤ start → start ≤ most64 → 1 ≤ end → end ≤ most64
-    → (region-of (name ++ blank ∷ (decimal start ++ blank ∷ decimal end)) ≡ Is (record { name = record { start = 0; end = length name }; start = start; end = end }))
-    × (text-at (record { start = 0; end = length name }) (name ++ blank ∷ (decimal start ++ blank ∷ decimal end)) ≡ name)
+    → (region-of (name ++ sp ∷ (decimal start ++ sp ∷ decimal end)) ≡ Is (record { name = record { start = 0; end = length name }; start = start; end = end }))
+    × (text-at (record { start = 0; end = length name }) (name ++ sp ∷ (decimal start ++ sp ∷ decimal end)) ≡ name)
 unfolding start-of end-of index is-space
 region-reads name start end inked some h g k l =
-    let n = word-first name inked some (blank ∷ (decimal start ++ blank ∷ decimal end)) refl in
-    let b = word-behind (decimal start) (decimal-inked start) (decimal-some start) name (length name) refl (blank ∷ decimal end) refl in
-    let m : length name + 1 + length (decimal start) ≡ length (name ++ blank ∷ decimal start) = simp length-append (omega arith) in
-    let e = rw append-assoc at (word-last (decimal end) (decimal-inked end) (decimal-some end) (name ++ blank ∷ decimal start) _ m) in
-    let long : length (name ++ blank ∷ (decimal start ++ blank ∷ decimal end)) ≢ 0 = λ z. n .some (sym z) in (
+    let n = word-first name inked some (sp ∷ (decimal start ++ sp ∷ decimal end)) refl in
+    let b = word-behind (decimal start) (decimal-inked start) (decimal-some start) name (length name) refl (sp ∷ decimal end) refl in
+    let m : length name + 1 + length (decimal start) ≡ length (name ++ sp ∷ decimal start) = simp length-append (omega arith) in
+    let e = rw append-assoc at (word-last (decimal end) (decimal-inked end) (decimal-some end) (name ++ sp ∷ decimal start) _ m) in
+    let long : length (name ++ sp ∷ (decimal start ++ sp ∷ decimal end)) ≢ 0 = λ z. n .some (sym z) in (
       rw region-is (sym (next-then _ _ n
           (next-then _ _ b (rw (b .reads, region-position-decimal start h g)
           (next-then _ _ e (rw (e .reads, region-position-decimal end k l))))))),

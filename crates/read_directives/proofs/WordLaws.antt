@@ -8,7 +8,7 @@ use mathlib.Core.List.{List, [], _∷_, _++_, append-nil}
 use lib.ListN.{length, drop, length-append}
 use lib.Seq.{drop-at, drop-drop, drop-append-seam, take-at}
 use borrow.Author.Tests.{eq-eqb, ne-eqb}
-use Rattle.base_lists.specs.Bytes.{Every, blank}
+use Rattle.base_lists.specs.Bytes.{Every, sp}
 use Rattle.base_scan.specs.declared.place.Place.{Place}
 use Rattle.base_scan.specs.Find.{index}
 use Rattle.base_scan.specs.Part.{text-at}
@@ -86,11 +86,11 @@ module _ (w : List ℕ) (inked : Every (λ x. is-space x ≡ false) w) (some : 0
 
   module _ (a : List ℕ) (at : ℕ) (l : at ≡ length a) where
     pub word-behind : (rest : List ℕ) → index is-space rest ≡ 0
-        → Next (a ++ blank ∷ (w ++ rest)) at w (record { start = at + 1; end = at + 1 + length w })
+        → Next (a ++ sp ∷ (w ++ rest)) at w (record { start = at + 1; end = at + 1 + length w })
     unfolding is-space
-    word-behind rest ends = word-next a (blank ∷ []) w rest (refl, tt) inked some ends at _ l refl refl
+    word-behind rest ends = word-next a (sp ∷ []) w rest (refl, tt) inked some ends at _ l refl refl
 
-    pub word-last : Next (a ++ blank ∷ w) at w (record { start = at + 1; end = at + 1 + length w })
+    pub word-last : Next (a ++ sp ∷ w) at w (record { start = at + 1; end = at + 1 + length w })
     unfolding index
     word-last = rw append-nil at (word-behind [] refl)
 

@@ -1,3 +1,4 @@
+pub mod BlankLaws
 pub mod LinesLaws
 pub mod StepLaws
 mod Samples

@@ -5,7 +5,7 @@ use mathlib.Core.Path.{_≡_, refl, sym, _∙_}
 use mathlib.Core.Bool.{true, false, cond, not}
 use mathlib.Core.List.{List, _∷_, _++_}
 use lib.Dec.{eqb, ltb}
-use lib.ListN.{length, take, drop}
+use lib.ListN.{length, take, drop, length-drop}
 use lib.Seq.{take-length, length-take-le}
 use borrow.Author.Tests.{ltb-false, le-ltb, eqb-true, eqb-false, eq-eqb, not-false}
 use Rattle.base_lists.specs.Bytes.{Lacks, lf}
@@ -15,10 +15,11 @@ use Rattle.base_scan.proofs.FindLaws.{index-le, lacks-before, lacks-all, cut-at
 use Rattle.read_parts.specs.declared.state.State.{State}
 use Rattle.read_parts.specs.declared.Part.{Part}
 use Rattle.read_parts.specs.declared.Part.the-variants.{NoLine, Refused}
-use Rattle.read_parts.specs.State.{hold-length, fresh, is-long, grown-hold, settled}
+use Rattle.read_parts.specs.State.{hold-length, fresh, is-long, skipped, behind-blank, grown-hold, settled}
 use Rattle.read_parts.specs.Inner.Store.{Ready, Grows, Settles}
-use Rattle.read_parts.specs.Calls.{refuses, Leaves, fed, feed-at, take-part, TakesPart, ended, EndsParts}
+use Rattle.read_parts.specs.Calls.{refuses, Leaves, fed, begun, unskipped, feed-at, take-part, TakesPart, ended, EndsParts}
 use Rattle.read_parts.specs.Run.{bytes-taken, next-state}
+use Rattle.read_parts.proofs.SkipLaws.{skipped-le}
 
 -- ── 34 ────────────────────────────────────────────────────────────────────────────────────────
 
@@ -51,37 +52,43 @@ module _ {s : State} {d hold : List ℕ} {answer : Part} where
 -- ── how a call ends ───────────────────────────────────────────────────────────────────────────
 
 module _ {s g : State} {d d' : List ℕ} {r : Part} (ok : refuses (s .held) (length d) ≡ false) where
-  pub takes : (p : List ℕ) {k : ℕ} → k ≡ feed-at p → Grows s (take k p) d d' g → r ≡ cond (eqb k (length p)) (NoLine k g) (fed g (k + 1))
-      → TakesPart s p d d' r
+  pub takes : (p : List ℕ) {n k : ℕ} {b : State} {q : List ℕ} → n ≡ skipped s p → b ≡ behind-blank s n → q ≡ drop n p → k ≡ feed-at q
+      → Grows b (take k q) d d' g → r ≡ cond (eqb k (length q)) (NoLine (n + k) g) (fed g (n + k + 1)) → TakesPart s p d d' r
   unfolding take-part
-  takes p e grows f = leaves ok (f ∙ rw (grows .result, e)) (grows .left ∙ rw e)
+  takes p e f h i grows j = leaves ok (j ∙ rw (grows .result, i, h, f, e)) (grows .left ∙ rw (i, h, f, e))
 
   pub ends : Settles s d d' g → r ≡ ended g → EndsParts s d d' r
   ends settles f = leaves ok (f ∙ rw (settles .result)) (settles .left)
 
 -- ── what it means ─────────────────────────────────────────────────────────────────────────────
 
--- no line feed is in the part, and all of it is taken; or it ends the line behind a
+-- blank lines are passed; then no line feed is left, and all of the part is taken; or one ends the line behind a
 pub data Means (s : State) (p d d' : List ℕ) : Part → Type 0 where
-  more : {g : State} → Lacks lf p → Grows s p d d' g → Means s p d d' (NoLine (length p) g)
-  feed : {g : State} {k : ℕ} (a b : List ℕ) → p ≡ a ++ lf ∷ b → length a ≡ k → Lacks lf a → Grows s a d d' g → Means s p d d' (fed g (k + 1))
+  more : {g : State} → Lacks lf (unskipped s p) → Grows (begun s p) (unskipped s p) d d' g → Means s p d d' (NoLine (length p) g)
+  feed : {g : State} {k : ℕ} (a b : List ℕ) → unskipped s p ≡ a ++ lf ∷ b → skipped s p + length a ≡ k → Lacks lf a
+      → Grows (begun s p) a d d' g → Means s p d d' (fed g (k + 1))
 
 pub takes-means : {s : State} {p d d' : List ℕ} {r : Part} → Ready s d → TakesPart s p d d' r → Means s p d d' r
 unfolding take-part seek
 takes-means {s} {p} {d} {d'} {r} q t =
     let m = leaves-means q t in
-    rw (m .0) (go (index (is lf) p) refl (m .1))
+    rw (m .0) (go (index (is lf) (unskipped s p)) refl (m .1))
   where
-    go : (k : ℕ) → k ≡ index (is lf) p → d' ≡ grown-hold s (take k p) d → Means s p d d' (take-part s p)
+    go : (k : ℕ) → k ≡ index (is lf) (unskipped s p) → d' ≡ grown-hold (begun s p) (take k (unskipped s p)) d
+        → Means s p d d' (take-part s p)
     go k e l =
+        let rest = unskipped s p in
         rw (← e)
-        (by-test (Means s p d d') (eqb k (length p))
+        (by-test (Means s p d d') (eqb k (length rest))
         (λ all.
-        let n = eqb-true k (length p) all in
-        rw (n, take-length p) (more (lacks-all lf p (sym e ∙ n)) (record { result = refl; left = rw (n, take-length p) at l })))
+        let n = eqb-true k (length rest) all in
+        let whole : skipped s p + k ≡ length p = omega (arith, length-drop (skipped s p) p, skipped-le s p) in
+        rw (whole, n, take-length rest)
+        (more (lacks-all lf rest (sym e ∙ n)) (record { result = refl; left = rw (n, take-length rest) at l })))
         (λ some.
-        let h : index (is lf) p < length p = omega (arith, index-le (is lf) p, eqb-false k (length p) some) in
-        feed (take k p) (drop (suc k) p) (rw e (cut-at lf p h)) (length-take-le k p (omega arith)) (rw e (lacks-before lf p))
+        let h : index (is lf) rest < length rest = omega (arith, index-le (is lf) rest, eqb-false k (length rest) some) in
+        feed (take k rest) (drop (suc k) rest) (rw e (cut-at lf rest h)) (omega (arith, length-take-le k rest (omega arith)))
+        (rw e (lacks-before lf rest))
         (record { result = refl; left = l })))
 
 -- what waits, stays, and the line ends

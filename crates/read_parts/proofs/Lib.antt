@@ -4,5 +4,6 @@ pub mod ReasonLaws
 pub mod ReturnLaws
 mod Samples
 pub mod Sameness
+pub mod SkipLaws
 pub mod StoreLaws
 mod Unique

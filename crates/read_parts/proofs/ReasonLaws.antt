@@ -3,7 +3,7 @@ use Prim.Native.Nat.{ℕ, _+_, _<_}
 use native.Mathlib.Omega.{arith}
 use mathlib.Core.Path.{_≡_, refl, sym, ap, _∙_}
 use mathlib.Core.Logic.{_≢_}
-use mathlib.Core.Bool.{Bool, true, false, cond, not, _&&_}
+use mathlib.Core.Bool.{Bool, true, false, cond, not}
 use mathlib.Core.List.{List, [], _∷_}
 use lib.Dec.{eqb}
 use lib.ListN.{length}
@@ -16,8 +16,8 @@ use Rattle.base_lists.specs.Bytes.{lf}
 use Rattle.read_parts.specs.declared.state.State.{State}
 use Rattle.read_parts.specs.declared.Part.{Part}
 use Rattle.read_parts.specs.declared.Part.the-variants.{Line, TooLong, Refused}
-use Rattle.read_parts.specs.State.{fresh, is-long, grown}
-use Rattle.read_parts.specs.Calls.{part-refusal, refuses, Leaves, fed, feed-at, of-line, ends-long, take-part, ended}
+use Rattle.read_parts.specs.State.{fresh, is-long, is-blank, skipped, grown}
+use Rattle.read_parts.specs.Calls.{part-refusal, refuses, Leaves, fed, begun, unskipped, feed-at, of-line, ends-long, take-part, ended}
 
 -- where 34 is not given, the answer is refused by 25 or not at all
 module _ {s : State} {d d' hold : List ℕ} {answer r : Part} (long : Bool) (number : part-refusal answer ≡ cond long 25 0)
@@ -52,14 +52,16 @@ fed-number s k = go (is-long (s .tail))
 pub take-part-number : (s : State) (p : List ℕ) → part-refusal (take-part s p) ≡ cond (ends-long s p) 25 0
 unfolding take-part
 take-part-number s p =
-    by-test (λ (r : Part). part-refusal r ≡ cond (ends-long s p) 25 0) (eqb (feed-at p) (length p))
-    (λ all. let e = eqb-true (feed-at p) (length p) all in rw (le-ltb (feed-at p) (length p) (omega arith)))
+    let rest = unskipped s p in
+    let k = feed-at rest in
+    by-test (λ (r : Part). part-refusal r ≡ cond (ends-long s p) 25 0) (eqb k (length rest))
+    (λ all. let e = eqb-true k (length rest) all in rw (le-ltb k (length rest) (omega arith)))
     (λ some.
-    let h : feed-at p < length p = omega (arith, seek-le (is lf) 0 p, eqb-false (feed-at p) (length p) some) in
-    rw (lt-ltb (feed-at p) (length p) h) (fed-number (grown s (of-line p)) (feed-at p + 1)))
+    let h : k < length rest = omega (arith, seek-le (is lf) 0 rest, eqb-false k (length rest) some) in
+    rw (lt-ltb k (length rest) h) (fed-number (grown (begun s p) (of-line rest)) (skipped s p + k + 1)))
 
 pub ended-number : (s : State) → part-refusal (ended s) ≡ cond (is-long (s .tail)) 25 0
 ended-number s =
-    by-test (λ (r : Part). part-refusal r ≡ cond (is-long (s .tail)) 25 0) (eqb (s .held) 0 && not (is-long (s .tail)))
+    by-test (λ (r : Part). part-refusal r ≡ cond (is-long (s .tail)) 25 0) (is-blank s)
     (λ none. rw (not-true (is-long (s .tail)) (and-right (eqb (s .held) 0) (not (is-long (s .tail))) none)))
     (λ some. fed-number s 0)

@@ -4,38 +4,38 @@ use Prim.Native.Nat.{ℕ, zero, suc, _+_, _≤_, _<_}
 use native.Mathlib.Omega.{arith}
 use mathlib.Core.Path.{_≡_, refl, sym, ap, _∙_}
 use mathlib.Core.Logic.{_≢_}
-use mathlib.Core.Bool.{false, not, _&&_}
+use mathlib.Core.Bool.{false}
 use mathlib.Core.List.{List, [], _∷_, _++_, map, append-assoc}
-use lib.Dec.{eqb, leb}
+use lib.Dec.{leb}
 use lib.ListN.{length, take, drop, length-drop, take-append-drop}
-use lib.Seq.{drop-append-seam, drop-append-add}
+use lib.Seq.{drop-drop, drop-append-seam, drop-append-le, drop-append-add}
 use borrow.Author.Tests.{le-leb}
-use Rattle.base_lists.specs.Bytes.{Every, Lacks, lf}
+use Rattle.base_lists.specs.Bytes.{Every, lf}
 use Rattle.base_scan.specs.Find.{index, seek}
 use Rattle.base_lists.proofs.BoolLaws.{by-test}
-use Rattle.read_lines.specs.Lines.{chomped, lines-after, lines}
-use Rattle.read_lines.proofs.LinesLaws.{lines-begin}
+use Rattle.read_lines.specs.Lines.{lines-after, lines}
+use Rattle.read_lines.proofs.LinesLaws.{lines-begin, lines-fed}
 use Rattle.read_parts.specs.declared.state.State.{State}
 use Rattle.read_parts.specs.declared.Part.{Part}
 use Rattle.read_parts.specs.declared.Part.the-variants.{NoLine}
-use Rattle.read_parts.specs.State.{hold-length, fresh, is-long, grown-hold, settled, settled-hold}
+use Rattle.read_parts.specs.State.{hold-length, fresh, is-blank, skipped, behind-blank, grown-hold, settled, settled-hold}
 use Rattle.read_parts.specs.Inner.Store.{Ready}
-use Rattle.read_parts.specs.Calls.{refuses, fed, of-line, take-part, TakesPart, ended, EndsParts}
+use Rattle.read_parts.specs.Calls.{refuses, fed, begun, unskipped, of-line, take-part, TakesPart, ended, EndsParts}
 use Rattle.read_parts.specs.Run.{Event, line, refusal, shown, told, bytes-taken, next-state, Run, call, end}
 use Rattle.read_parts.specs.Sameness.{Sameness, OneCall}
-use Rattle.read_parts.proofs.StoreLaws.{stores-ready, grows-none}
+use Rattle.read_parts.proofs.SkipLaws.{skipped-le}
+use Rattle.read_parts.proofs.StoreLaws.{behind-ready, stores-ready, grows-none}
 use Rattle.read_parts.proofs.CallLaws.{ready, accepted, leaves, leaves-means, Means, more, feed, takes-means, ends-means, fed-next}
-use Rattle.read_parts.proofs.BegunLaws.{Begun, begun-fresh, begun-ready, begun-grows, begun-fed, begun-ends}
+use Rattle.read_parts.proofs.BegunLaws.{Begun, begun-fresh, begun-ready, begun-grows, begun-past, begun-fed, begun-ends}
 
 -- ── what is told ──────────────────────────────────────────────────────────────────────────────
 
--- a line feed ends what was read since the last one
-lines-fed : (l a z : List ℕ) → Lacks lf a → lines-after l (a ++ lf ∷ z) ≡ chomped (l ++ a) ∷ lines z
-unfolding lines-after
-lines-fed l a z h = lines-begin a (lf ∷ z) l h
-
-drop-fed : (a b rest : List ℕ) (k : ℕ) → length a ≡ k → drop (k + 1) ((a ++ lf ∷ b) ++ rest) ≡ b ++ rest
-drop-fed a b rest k e = rw (← e, append-assoc a (lf ∷ b) rest) (drop-append-add a (lf ∷ (b ++ rest)) 1)
+-- what is left behind a line feed of a part p, from whose byte n on a stands before it
+drop-fed : (p a b rest : List ℕ) (n k : ℕ) → n ≤ length p → drop n p ≡ a ++ lf ∷ b → n + length a ≡ k → drop (k + 1) (p ++ rest) ≡ b ++ rest
+drop-fed p a b rest n k h e f =
+    let g : k + 1 ≡ n + (length a + 1) = omega arith in
+    rw (g, ← drop-drop (length a + 1) n (p ++ rest), drop-append-le n p rest h, e, append-assoc a (lf ∷ b) rest)
+    (drop-append-add a (lf ∷ (b ++ rest)) 1)
 
 -- from any call of a run on: l was read since the last line feed
 same-after : (l before : List ℕ) {d text lengths : List ℕ} {s : State} {events : List Event} → Begun l before s d → Run lengths s d text events
@@ -48,14 +48,25 @@ same-after l before {d} {text} {s = s} begun (call {d' = d'} {r = r} {events = e
         → ((m w : List ℕ) → Begun m w (next-state s x) d' → events ≡ map shown (lines-after m (drop (bytes-taken x) text)))
         → told x d' ++ events ≡ map shown (lines-after l text)
     go p rest e (more {g} lacks grows) later =
-        later (l ++ p) before (begun-grows begun p grows)
-        ∙ rw (e, drop-append-seam p rest) (ap (map shown) (sym (lines-begin p rest l lacks)))
+        let past = begun-past begun p in
+        later (past .line ++ unskipped s p) (past .before) (begun-grows (past .begins) (unskipped s p) grows)
+        ∙ rw (e, drop-append-seam p rest) (ap (map shown) (sym (past .same rest ∙ lines-begin (unskipped s p) rest (past .line) lacks)))
     go p rest e (feed {g} {k} a b f n lacks grows) later =
-        let line = begun-grows begun a grows in
+        let past = begun-past begun p in
+        let line = begun-grows (past .begins) a grows in
         let q = fed-next s g (k + 1) in
-        let z : drop (bytes-taken (fed g (k + 1))) text ≡ b ++ rest = rw (q .1, e, f) (drop-fed a b rest k n) in
-        rw (begun-fed (k + 1) line, later [] d' (rw (q .0) (begun-fresh (begun-ready line .room))), z, e, f, append-assoc a (lf ∷ b) rest)
-        (ap (map shown) (sym (lines-fed l a (b ++ rest) lacks)))
+        let z : drop (bytes-taken (fed g (k + 1))) text ≡ b ++ rest
+        = rw (q .1, e) (drop-fed p a b rest (skipped s p) k (skipped-le s p) f n) in
+        rw (
+          begun-fed (k + 1) line,
+          later [] d' (rw (q .0) (begun-fresh (begun-ready line .room))),
+          z,
+          e,
+          past .same rest,
+          f,
+          append-assoc a (lf ∷ b) rest,
+        )
+        (ap (map shown) (sym (lines-fed (past .line) a (b ++ rest) lacks (past .ends a b f))))
 
 -- a line that fits is handed out
 pub shown-fits : (l : List ℕ) → length l ≤ hold-length → shown l ≡ line l
@@ -87,21 +98,23 @@ module _ {s : State} {d d' : List ℕ} {r : Part} (q : Ready s d) where
   next-ready p t = go (takes-means q t)
     where
       go : {x : Part} → Means s p d d' x → Ready (next-state s x) d'
-      go (more l grows) = stores-ready q grows
-      go (feed {g} {k} a b e n l grows) = rw (fed-next s g (k + 1) .0) (record { within = omega arith; room = stores-ready q grows .room })
+      go (more l grows) = stores-ready (behind-ready (skipped s p) q) grows
+      go (feed {g} {k} a b e n l grows) =
+          rw (fed-next s g (k + 1) .0) (record { within = omega arith; room = stores-ready (behind-ready (skipped s p) q) grows .room })
 
   takes-none : TakesPart s [] d d' r → (r ≡ NoLine 0 s) × (d' ≡ d)
-  unfolding take-part seek index
+  unfolding take-part behind-blank seek index
   takes-none t =
       let m = leaves-means q t in
       let none = grows-none s [] d (q .within) refl in
-      (m .0 ∙ ap (NoLine 0) (sym (none .result)), m .1 ∙ sym (none .left))
+      let e : skipped s [] ≡ 0 = omega (arith, skipped-le s []) in
+      (m .0 ∙ rw e (ap (NoLine 0) (sym (none .result))), m .1 ∙ rw e (sym (none .left)))
 
   ends-fresh : EndsParts s d d' r → next-state s r ≡ fresh
   ends-fresh e =
       let last = settled s in
       rw (ends-means q e .0)
-      (by-test (λ (x : Part). next-state s x ≡ fresh) (eqb (last .held) 0 && not (is-long (last .tail)))
+      (by-test (λ (x : Part). next-state s x ≡ fresh) (is-blank last)
       (λ none. refl)
       (λ some. fed-next s last 0 .0))
 
@@ -127,9 +140,10 @@ then : {s : State} {d : List ℕ} (text lengths : List ℕ) (n : ℕ) → Ready 
 then {s} {d} text lengths n q later =
     let p = take n text in
     let r = take-part s p in
-    let t : TakesPart s p d (grown-hold s (of-line p) d) r = leaves (accepted q) refl refl in
-    let on = later (next-state s r) (grown-hold s (of-line p) d) (bytes-taken r) (next-ready q p t) (takes-some q p t) in
-    (on .0, told r (grown-hold s (of-line p) d) ++ on .1, call n t (on .2))
+    let hold = grown-hold (begun s p) (of-line (unskipped s p)) d in
+    let t : TakesPart s p d hold r = leaves (accepted q) refl refl in
+    let on = later (next-state s r) hold (bytes-taken r) (next-ready q p t) (takes-some q p t) in
+    (on .0, told r hold ++ on .1, call n t (on .2))
 
 -- nothing is left
 at-the-end : (s : State) (d : List ℕ) → Ready s d → GoesOn [] s d []

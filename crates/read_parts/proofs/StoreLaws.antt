@@ -5,16 +5,17 @@ use native.Mathlib.Nat.{add-zero, add-assoc}
 use mathlib.Core.Path.{_≡_, refl, sym, ap, _∙_, subst}
 use mathlib.Core.Bool.{Bool, true, false, cond}
 use mathlib.Core.List.{List, [], _∷_, _++_, append-assoc}
-use lib.Dec.{ltb}
+use lib.Dec.{eqb, ltb}
 use lib.ListN.{length, length-append}
 use borrow.Author.Tests.{ltb-true, ltb-false, lt-ltb, le-ltb}
+use Rattle.base_lists.proofs.BoolLaws.{by-test}
 use Rattle.base_buffer.specs.Laid.{laid, Lays}
 use Rattle.base_buffer.proofs.LaidLaws.{length-laid, laid-append, laid-past}
 use Rattle.read_lines.specs.Lines.{chomped}
 use Rattle.read_parts.specs.declared.state.Tail.{Tail}
 use Rattle.read_parts.specs.declared.state.Tail.the-variants.{Fits, Waits, Long}
 use Rattle.read_parts.specs.declared.state.State.{State}
-use Rattle.read_parts.specs.State.{hold-length, holds, is-long, ending, waiting, new, stored, stored-hold}
+use Rattle.read_parts.specs.State.{hold-length, holds, is-long, ending, waiting, new, behind-blank, stored, stored-hold}
 use Rattle.read_parts.specs.Inner.Store.{Ready, Stores, Grows, Settles}
 use Rattle.read_parts.proofs.ReturnLaws.{ending-short, chomped-waiting, leave-append}
 
@@ -93,6 +94,12 @@ stores-ready {s} {r} {bytes} {d} {d'} {t} q p =
     room : (b : Bool) → length (cond b d (laid d (s .held) bytes)) ≡ hold-length
     room true = q .room
     room false = length-laid bytes d (s .held) ∙ q .room
+
+-- and so does a state behind blank lines
+pub behind-ready : {s : State} {d : List ℕ} (n : ℕ) → Ready s d → Ready (behind-blank s n) d
+unfolding behind-blank
+behind-ready {s} {d} n q =
+    by-test (λ (x : State). Ready x d) (eqb n 0) (λ e. q) (λ e. record { within = omega arith; room = q .room })
 
 -- a copy of as much as there is room for
 module _ {s : State} {bytes d d' : List ℕ} {n : ℕ} (ready : Ready s d) (short : is-long (s .tail) ≡ false) (copy : Lays bytes d (s .held) d' n) where

@@ -4,14 +4,14 @@ use mathlib.Core.Path.{_≡_}
 use mathlib.Core.Bool.{Bool, cond, not, _&&_, _||_}
 use mathlib.Core.List.{List, [], _∷_}
 use lib.Dec.{eqb, ltb}
-use lib.ListN.{length, take}
+use lib.ListN.{length, take, drop}
 use Rattle.base_lists.specs.Bytes.{lf}
 use Rattle.base_scan.specs.Find.{found}
 use Rattle.base_buffer.specs.Answer.{Reason, _when_}
 use Rattle.read_parts.specs.declared.state.State.{State}
 use Rattle.read_parts.specs.declared.Part.{Part}
 use Rattle.read_parts.specs.declared.Part.the-variants.{Line, TooLong, NoLine, Refused}
-use Rattle.read_parts.specs.State.{hold-length, fresh, is-long, grown, grown-hold, settled, settled-hold}
+use Rattle.read_parts.specs.State.{hold-length, fresh, is-long, is-blank, skipped, behind-blank, grown, grown-hold, settled, settled-hold}
 
 -- the number of a refusal (RULES 10), or 0
 abbrev pub part-refusal : Part → ℕ
@@ -44,15 +44,24 @@ feed-at p = found lf 0 p
 abbrev pub of-line : List ℕ → List ℕ
 of-line p = take (feed-at p) p
 
--- all of it is taken; or the line feed, too, and the line ends
+-- the state behind blank lines, and what is left of the part there
+abbrev pub begun : State → List ℕ → State
+begun s p = behind-blank s (skipped s p)
+
+abbrev pub unskipped : State → List ℕ → List ℕ
+unskipped s p = drop (skipped s p) p
+
+-- behind blank lines: all of the rest is taken; or its line feed is the last byte taken, and the line ends
 unfoldable pub take-part : State → List ℕ → Part
 take-part s p =
-    let next = grown s (of-line p) in
-    cond (eqb (feed-at p) (length p)) (NoLine (feed-at p) next) (fed next (feed-at p + 1))
+    let rest = unskipped s p in
+    let next = grown (begun s p) (of-line rest) in
+    let taken = skipped s p + feed-at rest in
+    cond (eqb (feed-at rest) (length rest)) (NoLine taken next) (fed next (taken + 1))
 
 -- a line feed comes, and the line is too long
 abbrev pub ends-long : State → List ℕ → Bool
-ends-long s p = ltb (feed-at p) (length p) && is-long (grown s (of-line p) .tail)
+ends-long s p = let rest = unskipped s p in ltb (feed-at rest) (length rest) && is-long (grown (begun s p) (of-line rest) .tail)
 
 -- the reasons to refuse, in their order (RULES 11.9), where the hold has so many bytes
 abbrev pub take-reasons : State → List ℕ → ℕ → List Reason
@@ -60,13 +69,13 @@ take-reasons s p room = (34 when refuses (s .held) room) ∷ (25 when ends-long 
 
 -- what `take_part` may give
 abbrev pub TakesPart : State → List ℕ → List ℕ → List ℕ → Part → Type 0
-TakesPart s p d = Leaves s d (take-part s p) (grown-hold s (of-line p) d)
+TakesPart s p d = Leaves s d (take-part s p) (grown-hold (begun s p) (of-line (unskipped s p)) d)
 
 -- ── the end call ──
 
--- a line ends that has a byte
+-- a line ends, unless it is blank
 abbrev pub ended : State → Part
-ended s = cond (eqb (s .held) 0 && not (is-long (s .tail))) (NoLine 0 fresh) (fed s 0)
+ended s = cond (is-blank s) (NoLine 0 fresh) (fed s 0)
 
 abbrev pub end-reasons : State → ℕ → List Reason
 end-reasons s room = (34 when refuses (s .held) room) ∷ (25 when is-long (settled s .tail)) ∷ []

@@ -1,6 +1,10 @@
 // The state between two calls: what is held of the line that is begun and not ended.
+ghost use Prim.Native.Nat.{_-_};
 ghost use mathlib.Core.Path.{_≡_};
-ghost use Rattle.read_parts.specs.State.{fresh, is-long};
+ghost use mathlib.Core.List.{_∷_};
+ghost use Rattle.base_lists.specs.Bytes.{cr};
+ghost use Rattle.read_lines.specs.Blank.{blank-run};
+ghost use Rattle.read_parts.specs.State.{fresh, is-long, is-blank, skipped, behind-blank};
 ghost use Rattle.read_parts.specs.Inner.Store.{Ready, Stores, Grows, Settles};
 
 // What is known of the line's end.
@@ -40,6 +44,51 @@ pub(crate) fn is_long(state: State) -> bool
         Tail::Waits => false,
         Tail::Long => true,
     }
+}
+
+// So far the line is blank: no byte of it is sure to stay.
+pub(crate) fn is_blank(state: State) -> bool
+    ensures { λ r. ⌜ r ≡ is-blank state ⌝ }
+{
+    (state.held == 0) & !is_long(state)
+}
+
+// So many bytes of a part belong to blank lines, behind a carriage return that waits: none, where no line feed comes first.
+fn skipped_behind_return(part: &[u8]) -> usize
+    ensures { λ r. ⌜ r ≡ blank-run (cr ∷ now (part .entry)) - 1 ⌝ }
+{
+    if part.len() == 0 {
+        return 0;
+    }
+    if part[0] != b'\n' {
+        return 0;
+    }
+    read_lines::past_blank(part, 0)
+}
+
+// So many bytes of a part belong to blank lines.
+pub(crate) fn skipped(state: State, part: &[u8]) -> usize
+    ensures { λ r. ⌜ r ≡ skipped state (now (part .entry)) ⌝ }
+{
+    if state.held != 0 {
+        return 0;
+    }
+    let tail = state.tail;
+    match tail {
+        Tail::Fits => read_lines::past_blank(part, 0),
+        Tail::Waits => skipped_behind_return(part),
+        Tail::Long => 0,
+    }
+}
+
+// The state behind so many bytes of blank lines: a carriage return that waited was theirs.
+pub(crate) fn behind_blank(state: State, count: usize) -> State
+    ensures { λ r. ⌜ r ≡ behind-blank state count ⌝ }
+{
+    if count == 0 {
+        return state;
+    }
+    State::new()
 }
 
 // Stores bytes that stay, as many as there is room for; where all fit, the line goes on by `tail`.

@@ -34,4 +34,4 @@ module _ (text : List ℕ) (accepted : refusal-of (comment-reasons text) ≡ 0) 
   pub comment-one : OneLine (comment-line text)
   comment-one =
       let e = plain text accepted .unbroken in
-      (((λ p. omega arith), no-feed text e), ((λ p. omega arith), no-return text e))
+      (((λ p. omega arith), no-feed text e), ((λ p. omega arith), no-return text e), omega arith)

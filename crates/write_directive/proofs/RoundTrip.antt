@@ -8,7 +8,7 @@ use mathlib.Core.Bool.{true, false, not, _&&_, true≢false}
 use mathlib.Core.Option.{some}
 use mathlib.Core.List.{List, [], _∷_, _++_, append-nil}
 use lib.Dec.{eqb}
-use Rattle.base_lists.specs.Bytes.{Every, Lacks, lf, cr, blank}
+use Rattle.base_lists.specs.Bytes.{Every, Lacks, lf, cr, sp}
 use Rattle.base_lists.proofs.EveryLaws.{every-append}
 use Rattle.base_lists.proofs.BoolLaws.{or-left, or-right}
 use Rattle.base_lists.proofs.OrderLaws.{some-number}
@@ -81,7 +81,7 @@ value-back key Build first second s e =
 -- ── one line ──────────────────────────────────────────────────────────────────────────────────
 
 -- CR and LF at once: white space that no string value holds
-module _ (c : ℕ) (small : c < blank) (white : is-space c ≡ true) (digit : is-digit c ≡ false)
+module _ (c : ℕ) (small : c < sp) (white : is-space c ≡ true) (digit : is-digit c ≡ false)
     (broken : (s : List ℕ) → breaks s ≡ false → Lacks c s) where
   inked-lacks : (s : List ℕ) → Every (λ x. is-space x ≡ false) s → Lacks c s
   inked-lacks [] h = tt
@@ -90,7 +90,7 @@ module _ (c : ℕ) (small : c < blank) (white : is-space c ≡ true) (digit : is
   both : (a b : List ℕ) → Lacks c a → Lacks c b → Lacks c (a ++ b)
   both a b = every-append (λ x. x ≢ c) a b
 
-  space : blank ≢ c
+  space : sp ≢ c
   space e = omega arith
 
   dotted-lacks : (p : Part) → Lacks c (dotted p)
@@ -110,13 +110,13 @@ module _ (c : ℕ) (small : c < blank) (white : is-space c ≡ true) (digit : is
   )
   tail-lacks key (Region start end) first second e = (
     space,
-    both first (blank ∷ (decimal start ++ blank ∷ decimal end)) (inked-lacks first (fit-word first (clear _ _ e .fit) .0))
-        (space, both (decimal start) (blank ∷ decimal end) (decimal-lacks c start digit) (space, decimal-lacks c end digit)),
+    both first (sp ∷ (decimal start ++ sp ∷ decimal end)) (inked-lacks first (fit-word first (clear _ _ e .fit) .0))
+        (space, both (decimal start) (sp ∷ decimal end) (decimal-lacks c start digit) (space, decimal-lacks c end digit)),
   )
   tail-lacks key Build first second e =
       let f = clear _ _ e .fit in (
         space,
-        both first (blank ∷ second) (inked-lacks first (fit-word first (or-left (unfit first) (unfit second) f) .0))
+        both first (sp ∷ second) (inked-lacks first (fit-word first (or-left (unfit first) (unfit second) f) .0))
             (space, inked-lacks second (fit-word second (or-right (unfit first) (unfit second) f) .0)),
       )
 
@@ -147,4 +147,5 @@ module _ (key : List ℕ) (value : Value) (first second : List ℕ) (accepted : 
   directive-one = (
     line-lacks lf (omega arith) refl refl no-feed key value first second accepted,
     line-lacks cr (omega arith) refl refl no-return key value first second accepted,
+    omega arith,
   )

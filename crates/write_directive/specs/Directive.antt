@@ -3,7 +3,7 @@
 use Prim.Native.Nat.{ℕ}
 use mathlib.Core.Bool.{false}
 use mathlib.Core.List.{List, [], _∷_, _++_}
-use Rattle.base_lists.specs.Bytes.{blank, hash}
+use Rattle.base_lists.specs.Bytes.{sp, hash}
 use Rattle.base_buffer.specs.Answer.{Reason}
 use Rattle.write_texts.specs.Text.{long, breaks}
 use Rattle.write_directive.specs.declared.directive.Value.{Value}
@@ -25,7 +25,7 @@ directive-reasons key Build first second = build-reasons key first second
 -- the value and the space before it
 unfoldable pub tail : Value → List ℕ → List ℕ → List ℕ
 tail None first second = []
-tail Text first second = blank ∷ first
+tail Text first second = sp ∷ first
 tail (Version v) first second = version-tail v
 tail (Region start end) first second = region-tail first start end
 tail Build first second = build-tail first second

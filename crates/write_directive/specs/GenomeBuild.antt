@@ -2,7 +2,7 @@
 use Prim.Native.Nat.{ℕ}
 use mathlib.Core.Bool.{false, not, _||_}
 use mathlib.Core.List.{List, [], _∷_, _++_}
-use Rattle.base_lists.specs.Bytes.{ascii, blank}
+use Rattle.base_lists.specs.Bytes.{ascii, sp}
 use Rattle.base_words.specs.Same.{same}
 use Rattle.base_buffer.specs.Answer.{Reason}
 use Rattle.write_texts.specs.Text.{long, unfit}
@@ -24,8 +24,8 @@ build-reasons key source name =
 
 -- the value
 unfoldable pub build-text : List ℕ → List ℕ → List ℕ
-build-text source name = source ++ blank ∷ name
+build-text source name = source ++ sp ∷ name
 
 -- and the space before it
 abbrev pub build-tail : List ℕ → List ℕ → List ℕ
-build-tail source name = blank ∷ build-text source name
+build-tail source name = sp ∷ build-text source name

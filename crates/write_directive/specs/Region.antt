@@ -3,7 +3,7 @@ use Prim.Native.Nat.{ℕ}
 use mathlib.Core.Bool.{false, not, _||_}
 use mathlib.Core.List.{List, [], _∷_, _++_}
 use lib.Dec.{eqb}
-use Rattle.base_lists.specs.Bytes.{ascii, blank}
+use Rattle.base_lists.specs.Bytes.{ascii, sp}
 use Rattle.base_words.specs.Same.{same}
 use Rattle.base_buffer.specs.Answer.{Reason}
 use Rattle.write_decimals.specs.Decimal.{decimal}
@@ -26,8 +26,8 @@ region-reasons key name start end =
 
 -- the value
 unfoldable pub region-text : List ℕ → ℕ → ℕ → List ℕ
-region-text name start end = name ++ blank ∷ (decimal start ++ blank ∷ decimal end)
+region-text name start end = name ++ sp ∷ (decimal start ++ sp ∷ decimal end)
 
 -- and the space before it
 abbrev pub region-tail : List ℕ → ℕ → ℕ → List ℕ
-region-tail name start end = blank ∷ region-text name start end
+region-tail name start end = sp ∷ region-text name start end

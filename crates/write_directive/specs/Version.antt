@@ -3,7 +3,7 @@
 use Prim.Native.Nat.{ℕ}
 use mathlib.Core.Bool.{Bool, true, false, not, _&&_}
 use mathlib.Core.List.{List, [], _∷_, _++_}
-use Rattle.base_lists.specs.Bytes.{ascii, blank, dot}
+use Rattle.base_lists.specs.Bytes.{ascii, sp, dot}
 use Rattle.base_words.specs.Same.{same}
 use Rattle.base_buffer.specs.Answer.{Reason}
 use Rattle.write_decimals.specs.Decimal.{decimal}
@@ -41,4 +41,4 @@ version-text v = decimal (v .major) ++ (dotted (v .minor) ++ dotted (v .patch))
 
 -- and the space before it
 abbrev pub version-tail : GffVersion → List ℕ
-version-tail v = blank ∷ version-text v
+version-tail v = sp ∷ version-text v

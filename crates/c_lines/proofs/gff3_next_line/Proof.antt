@@ -10,6 +10,5 @@ gff3-next-line-spec =
     (λ c κs. tt)
     (λ c. search needs)
     (λ c. search needs)
-    (λ c κs. tt)
     (λ c. let d = c .before in rw (← d .before .before .next-line .ensures, d .place .given .1))
-    (λ c. let d = c .before in rw (← d .before .before .next-line .ensures, d .enum-told .given .1, ← c .least .ensures)))
+    (λ c. rw (← c .before .before .next-line .ensures, c .enum-told .given .1)))

@@ -3,7 +3,7 @@ use Prim.Native.Nat.{_-_}
 use native.Mathlib.Omega.{arith}
 use borrow.Author.Needs.{needs}
 use lib.ListN.{length}
-use Rattle.read_lines.proofs.StepLaws.{Hands, meets}
+use Rattle.read_lines.proofs.StepLaws.{Hands, hands-byte, meets}
 use Rattle.program_replay.proofs.replay.Statement.{statement}
 use Rattle.program_replay.proofs.replay.Tie as tie
 
@@ -12,6 +12,11 @@ Inv-loop cases cursor₀ cursor = Unit {0}
 
 abbrev μ-loop : tie.MeasureT-loop
 μ-loop cases cursor₀ cursor = length cases - cursor .at
+
+turn-requires : tie.Need-turn-requires Inv-loop μ-loop
+turn-requires c κs =
+    let p = c .before .before in
+    rw (c .text .ensures) (hands-byte (meets _ _ (p .before .before .next-line .ensures) (p .place .given .1)))
 
 loop-less : tie.Need-loop-less Inv-loop μ-loop
 loop-less c =
@@ -30,7 +35,7 @@ replay-spec =
     (λ c κs. tt)
     (λ c. search needs)
     (λ c κs. tt)
-    (λ c κs. tt)
+    turn-requires
     loop-less
     (λ c. tt)
     (λ c. search needs)

@@ -10,13 +10,25 @@ pub fn read_line(text: &mut &[u8], line: &mut Vec<u8>) -> usize {
     Door::read_line(text, line).expect("bytes at hand are read without fail")
 }
 
-/// All lines of a text, blank ones too. Calls the inner `read_line` of io/reader.rs until it takes nothing.
-pub fn read_lines(mut text: &[u8]) -> Vec<Vec<u8>> {
+/// The lines of a text, empty ones left out.
+pub fn read_lines(text: &[u8]) -> Vec<Vec<u8>> {
+    read_lines_that(text, |line| !line.is_empty())
+}
+
+/// All lines of a text, empty ones too.
+pub fn read_all_lines(text: &[u8]) -> Vec<Vec<u8>> {
+    read_lines_that(text, |_| true)
+}
+
+/// The lines of a text that pass a test. Calls the inner `read_line` of io/reader.rs until it takes nothing.
+fn read_lines_that(mut text: &[u8], test: fn(&[u8]) -> bool) -> Vec<Vec<u8>> {
     let mut lines = Vec::new();
     let mut line = Vec::new();
 
     while read_line(&mut text, &mut line) > 0 {
-        lines.push(line.clone());
+        if test(&line) {
+            lines.push(line.clone());
+        }
     }
 
     lines
