@@ -34,20 +34,23 @@ fn main() -> ExitCode {
 /// A line that is refused is said so, and the others are read on.
 fn print_exons(text: &[u8], out: &mut impl Write) -> io::Result<()> {
     let mut lines = lines(text);
+    let (mut number, mut counted) = (0, 0);
     while let Some(line) = lines.next() {
+        number += line_count(&text[counted..lines.at()]);
+        counted = lines.at();
         if line.kind() != Kind::Record {
             continue;
         }
         match line.record().and_then(|record| exon(&record)) {
             Ok(None) => {}
             Ok(Some(exon)) => out.write_all(&exon)?,
-            Err(refusal) => writeln!(out, "line {}: {refusal}", line_count(&text[..lines.at()]))?,
+            Err(refusal) => writeln!(out, "line {number}: {refusal}")?,
         }
     }
     Ok(())
 }
 
-/// How many lines a text has, blank ones too: up to the end of a line, that is the line's number.
+/// How many lines a text has, blank ones too.
 fn line_count(text: &[u8]) -> usize {
     text.split_inclusive(|byte| *byte == b'\n').count()
 }

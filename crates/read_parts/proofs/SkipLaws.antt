@@ -1,5 +1,5 @@
 -- Laws of blank lines that a part begins with: how many bytes are skipped, and what is left of it. Assumes nothing.
-use Prim.Native.Nat.{ℕ, zero, suc, _+_, _-_, _≤_, _<_}
+use Prim.Native.Nat.{ℕ, _+_, _-_, _≤_, _<_}
 use native.Mathlib.Omega.{arith}
 use mathlib.Core.Path.{_≡_, refl, sym}
 use mathlib.Core.Logic.{_⊎_, inl, inr}
@@ -11,6 +11,7 @@ use lib.Seq.{take-all, drop-append-add}
 use borrow.Author.Tests.{eqb-true, eqb-false}
 use Rattle.base_lists.specs.Bytes.{lf, cr}
 use Rattle.base_lists.proofs.BoolLaws.{by-test}
+use Rattle.base_lists.proofs.OrderLaws.{le-or-lt}
 use Rattle.read_lines.specs.Blank.{blank-run}
 use Rattle.read_lines.proofs.BlankLaws.{run-le, run-feed, run-return, run-no-feed}
 use Rattle.read_parts.specs.declared.state.Tail.{Tail}
@@ -51,19 +52,15 @@ module _ (s : State) (p : List ℕ) (none : s .held ≡ 0) where
 
 -- ── where the line is blank so far ────────────────────────────────────────────────────────────
 
-zero-or-some : (n : ℕ) → (n ≡ 0) ⊎ (0 < n)
-zero-or-some zero = inl refl
-zero-or-some (suc n) = inr (omega arith)
-
 -- there is no run, or one that is longer than what waited
-run-waiting : (t : Tail) (p : List ℕ) → (blank-run (waiting t ++ p) ≡ 0) ⊎ (length (waiting t) < blank-run (waiting t ++ p))
-run-waiting Fits p = zero-or-some (blank-run p)
-run-waiting Long p = zero-or-some (blank-run p)
+run-waiting : (t : Tail) (p : List ℕ) → (blank-run (waiting t ++ p) ≤ 0) ⊎ (length (waiting t) < blank-run (waiting t ++ p))
+run-waiting Fits p = le-or-lt (blank-run p) 0
+run-waiting Long p = le-or-lt (blank-run p) 0
 run-waiting Waits p = go (eqb (getD p 0 0) lf) refl
   where
-    go : (t : Bool) → eqb (getD p 0 0) lf ≡ t → (blank-run (cr ∷ p) ≡ 0) ⊎ (1 < blank-run (cr ∷ p))
+    go : (t : Bool) → eqb (getD p 0 0) lf ≡ t → (blank-run (cr ∷ p) ≤ 0) ⊎ (1 < blank-run (cr ∷ p))
     go true e = let f = eqb-true (getD p 0 0) lf e in inr (omega (arith, run-return p f, run-feed p f))
-    go false e = inl (run-no-feed p (eqb-false (getD p 0 0) lf e))
+    go false e = inl (omega (arith, run-no-feed p (eqb-false (getD p 0 0) lf e)))
 
 module _ (t : Tail) (short : is-long t ≡ false) (p : List ℕ) where
   abbrev run : ℕ
@@ -84,8 +81,8 @@ module _ (t : Tail) (short : is-long t ≡ false) (p : List ℕ) where
   pub skips : Skips
   skips = go (run-waiting t p)
     where
-      go : (run ≡ 0) ⊎ (length (waiting t) < run) → Skips
-      go (inl e) = stays (omega (arith, skipped-is)) e
+      go : (run ≤ 0) ⊎ (length (waiting t) < run) → Skips
+      go (inl h) = stays (omega (arith, skipped-is)) (omega arith)
       go (inr h) =
           let e : run ≡ length (waiting t) + n = omega (arith, skipped-is) in
           goes (omega (arith, skipped-is)) (rw e (sym (drop-append-add (waiting t) p n)))
