@@ -249,6 +249,37 @@ static void records(void)
     HOLD(gff3_write_comment(TEXT("a\n"), out, sizeof out).refused == GFF3_REFUSED_TEXT);
 }
 
+#define LINE(start, end, score, strand, phase, column) "s\t.\tg\t" start "\t" end "\t" score "\t" strand "\t" phase "\t" column "\n"
+#define MOST "18446744073709551615"
+
+/* Lines by hand: two directives, a comment, a blank line, five records, of which one is reversed, and each refusal but 24. */
+static void reports(void)
+{
+    static const char text[] = "##gff-version x\r\n##FASTA\n# a\n\n" LINE("8", "13", ".", "+", ".", "a=1") LINE("9", "8", ".", "+", ".", ".")
+        LINE("7", "7", "1", "?", "2", "") LINE("1", "8", ".", "-", ".", ".") LINE("3", "6", ".", ".", ".", "b=;") "s\n"
+        LINE("0", "6", ".", ".", ".", ".") LINE("3", "-6", ".", ".", ".", ".") LINE("3", "6", "", ".", ".", ".")
+        LINE("3", "6", ".", "++", ".", ".") LINE("3", "6", ".", ".", "3", ".") LINE("3", "6", ".", ".", ".", "a");
+    const gff3_morning all = gff3_report(TEXT(text));
+    const gff3_morning none = gff3_report(NULL, 0);
+    const gff3_morning most = gff3_report(TEXT(LINE("1", MOST, ".", "+", ".", ".") LINE(MOST, "1", ".", "+", ".", ".")));
+    const gff3_morning passed = gff3_report(TEXT(LINE("1", MOST, ".", "+", ".", ".") "# a\n" LINE("1", "1", ".", "+", ".", ".")));
+    uint64_t counted = 0;
+
+    HOLD(all.refused == 0 && all.records == 5 && all.directives == 2 && all.comments == 1 && all.reversed == 1);
+    HOLD(all.sum == 6 + 1 + 8 + 4);
+    HOLD(all.refused_columns == 1 && all.refused_position == 2 && all.refused_score == 1 && all.refused_strand == 1);
+    HOLD(all.refused_phase == 1 && all.refused_attribute == 1 && all.refused_too_long == 0);
+    HOLD(all.lengths[0] == 1 && all.lengths[1] == 0 && all.lengths[2] == 2 && all.lengths[3] == 1);
+    for (size_t i = 0; i < sizeof all.lengths / sizeof all.lengths[0]; i++) {
+        counted += all.lengths[i];
+        HOLD(none.lengths[i] == 0 && passed.lengths[i] == 0);
+    }
+    HOLD(counted + all.reversed == all.records);
+    HOLD(none.refused == 0 && none.records == 0 && none.sum == 0);
+    HOLD(most.refused == 0 && most.records == 2 && most.reversed == 1 && most.sum == UINT64_MAX && most.lengths[63] == 1);
+    HOLD(passed.refused == GFF3_REFUSED_SUM && passed.records == 0 && passed.comments == 0 && passed.sum == 0);
+}
+
 static void reasons(void)
 {
     HOLD(strcmp(gff3_reason(0), "not refused") == 0);
@@ -271,6 +302,7 @@ int main(void)
     typed_values();
     coding();
     records();
+    reports();
     reasons();
     return failed == 0 ? 0 : 1;
 }

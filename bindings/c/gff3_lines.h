@@ -1,5 +1,5 @@
 /* GFF3 lines, read and written with proof. docs/RULES.md of the project has the rules (RULES 16: the calls in C), and the crates c_lines
- * to c_write state what each call answers.
+ * to c_report state what each call answers.
  *
  * Every function takes any bytes and numbers, ends, and keeps nothing: what one call has to know of the one before it is handed in, and any
  * number of threads may call. A pointer may be null where its length is 0. An output buffer, or a hold, may not overlap a text of the same
@@ -25,7 +25,7 @@
 #include <stddef.h>
 #include <stdint.h>
 
-#define GFF3_LINES_VERSION "0.4.0"
+#define GFF3_LINES_VERSION "0.5.0"
 
 #ifdef __cplusplus
 extern "C" {
@@ -60,6 +60,7 @@ enum {
     GFF3_REFUSED_SHEET = 23,                /* not a field sheet */
     GFF3_REFUSED_TOO_LONG = 24,             /* the line or the text is too long */
     GFF3_REFUSED_LINE_TOO_LONG = 25,        /* the line has more than 65,536 bytes */
+    GFF3_REFUSED_SUM = 26,                  /* the lengths add up to more than 18446744073709551615 */
     GFF3_REFUSED_HOLD = 34                  /* the hold has not 65,536 bytes, or the state says that it holds more */
 };
 
@@ -402,6 +403,32 @@ gff3_written gff3_write_directive(const uint8_t *key, size_t key_len, gff3_direc
 
 /* `#` and the text. Refusals 24, 20, 22. */
 gff3_written gff3_write_comment(const uint8_t *text, size_t text_len, uint8_t *out, size_t out_len);
+
+/* ---- a text counted ---- */
+
+/* The lines of a text by what they are: records, directives, comments, and lines of kind record that gff3_unfold refuses, by its number
+ * (24, 1, 2, 17, 3, 4, 5). `reversed` are records whose start lies above their end; every other record has the length end minus start
+ * plus 1. `sum` is all these lengths added up, and `lengths[i]` says how many of them are at least 2^i and below 2^(i + 1). */
+typedef struct {
+    uint64_t refused;
+    uint64_t records;
+    uint64_t directives;
+    uint64_t comments;
+    uint64_t reversed;
+    uint64_t sum;
+    uint64_t refused_too_long;
+    uint64_t refused_columns;
+    uint64_t refused_position;
+    uint64_t refused_score;
+    uint64_t refused_strand;
+    uint64_t refused_phase;
+    uint64_t refused_attribute;
+    uint64_t lengths[64];
+} gff3_morning;
+
+/* The report of a whole text. Records, directives, comments and refused lines add up to the lines that gff3_next_line hands out, and
+ * `lengths` and `reversed` to the records. Refusal 26, and then all is 0. */
+gff3_morning gff3_report(const uint8_t *text, size_t text_len);
 
 #ifdef __cplusplus
 }

@@ -31,6 +31,7 @@ const char *gff3_reason(uint64_t refused)
         [GFF3_REFUSED_SHEET] = "not a field sheet",
         [GFF3_REFUSED_TOO_LONG] = "the line or the text is too long",
         [GFF3_REFUSED_LINE_TOO_LONG] = "the line has more than 65,536 bytes",
+        [GFF3_REFUSED_SUM] = "the lengths add up to more than 18446744073709551615",
         [GFF3_REFUSED_HOLD] = "the hold has not 65,536 bytes, or the state says that it holds more",
     };
     /* A number between two refusals that is none itself has no text. */

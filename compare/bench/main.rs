@@ -2,10 +2,11 @@
 //!
 //!     bench FILE [ROUNDS]
 //!
-//! Six passes over an annotation: splitting its lines; splitting them while the text comes in parts of 65,536 bytes; finding the
+//! Seven passes over an annotation: splitting its lines; splitting them while the text comes in parts of 65,536 bytes; finding the
 //! columns of each record line; reading start, end, strand and phase of each, its columns found anew; walking each column 9 to its
-//! end; writing each record again, by unfolding and writing here, and by the Rust's record and its writer. Lines and columns are cut
-//! before the pass that needs them. Parts are read into a buffer, as they would be from a file, on both sides. The two take turns,
+//! end; writing each record again, by unfolding and writing here, and by the Rust's record and its writer; and the report of the whole
+//! text, where the Rust reads each line's kind, each record's start and end, and walks its column 9. Lines and columns are cut before
+//! the pass that needs them. Parts are read into a buffer, as they would be from a file, on both sides. The two take turns,
 //! each time is the least of all rounds, and both must come to the same counts and sums; what they write is compared byte by byte
 //! before the passes. No buffer is cleared or filled from line to line, but for the Rust's vectors, which are emptied before each.
 
@@ -60,10 +61,11 @@ fn main() -> ExitCode {
         pass("fields", rounds, || fields(&lines), || rust::fields(&lines)),
         pass("attributes", rounds, || walk(&columns), || rust::attributes(&columns)),
         pass("writing", rounds, || rewrite(&lines), || rust::records(&lines)),
+        pass("report", rounds, || report(&text), || rust::report(&text)),
     ];
 
     println!("{:<12} {:>10} {:>10} {:>10}", "pass", "ours", "Rust", "ours/Rust");
-    let mut all = Pass::named("all six");
+    let mut all = Pass::named("all seven");
 
     for pass in passes {
         let pass = match pass {
@@ -348,4 +350,11 @@ fn rewrite(lines: &[&[u8]]) -> Sum {
     }
 
     (count, sum)
+}
+
+/// The lines that are not refused, and the sum of the records' lengths.
+#[inline(never)]
+fn report(text: &[u8]) -> Sum {
+    let report = ours::report(text);
+    (report.records + report.directives + report.comments, report.sum)
 }

@@ -21,4 +21,5 @@ pub fn loops(samples: &mut Samples) {
     samples.of("attributes", bench::attributes(&columns), "(2, 6)");
     samples.of("whole", bench::whole(text), "(2, 6)");
     samples.of("rewrite", bench::rewrite(text), "(2, 57)");
+    samples.of("report", bench::report(text), "(3, 12)");
 }

@@ -21,6 +21,7 @@ mod fence;
 mod hold;
 mod lines;
 mod marks;
+mod morning;
 mod numbers;
 mod options;
 mod ours;
@@ -70,8 +71,8 @@ macro_rules! groups {
     };
 }
 
-static GROUPS: [Group; 9] = groups![
-    lines, columns, attributes, directives, coding, unfolding, records, marks, parts
+static GROUPS: [Group; 10] = groups![
+    lines, columns, attributes, directives, coding, unfolding, records, marks, parts, morning
 ];
 
 /// What a group did.

@@ -69,6 +69,26 @@ structs! {
     }
 }
 
+/// By itself, since an array of sixty-four has no default.
+#[repr(C)]
+#[derive(Clone, Copy, Debug, Eq, PartialEq)]
+pub struct Morning {
+    pub refused: u64,
+    pub records: u64,
+    pub directives: u64,
+    pub comments: u64,
+    pub reversed: u64,
+    pub sum: u64,
+    pub refused_too_long: u64,
+    pub refused_columns: u64,
+    pub refused_position: u64,
+    pub refused_score: u64,
+    pub refused_strand: u64,
+    pub refused_phase: u64,
+    pub refused_attribute: u64,
+    pub lengths: [u64; 64],
+}
+
 unsafe extern "C" {
     fn gff3_next_line(text: *const u8, text_len: usize, at: usize) -> Line;
     fn gff3_kind(line: *const u8, line_len: usize) -> u32;
@@ -125,6 +145,7 @@ unsafe extern "C" {
         out_len: usize,
     ) -> Written;
     fn gff3_write_comment(text: *const u8, text_len: usize, out: *mut u8, out_len: usize) -> Written;
+    fn gff3_report(text: *const u8, text_len: usize) -> Morning;
 }
 
 /// Makes each function safe: the header asks for nothing but that a pointer has its length of bytes.
@@ -157,6 +178,7 @@ on_texts! {
     build = gff3_build(text) -> BuildValue;
     position = gff3_position(text) -> Number;
     judge = gff3_judge(line) -> Unfolded;
+    report = gff3_report(text) -> Morning;
 }
 
 #[inline]

@@ -56,7 +56,8 @@ calls! {
     Unfold = "gff3_unfold",
     WriteRecord = "gff3_write_record",
     WriteDirective = "gff3_write_directive",
-    WriteComment = "gff3_write_comment"
+    WriteComment = "gff3_write_comment",
+    Report = "gff3_report"
 }
 
 /// Makes one call, and compares its answer.

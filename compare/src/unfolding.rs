@@ -17,7 +17,7 @@ use crate::{
 };
 
 /// The longest line that is unfolded; the Rust knows no such limit.
-const LONGEST: usize = 4_194_304;
+pub const LONGEST: usize = 4_194_304;
 
 const MARKS: &[u8] = b"\t\t\t.+-?%0123456789eE#=;,=;,";
 

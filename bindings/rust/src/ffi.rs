@@ -158,6 +158,24 @@ pub struct DirectiveValue {
     pub end: u64,
 }
 
+#[repr(C)]
+pub struct Morning {
+    pub refused: u64,
+    pub records: u64,
+    pub directives: u64,
+    pub comments: u64,
+    pub reversed: u64,
+    pub sum: u64,
+    pub refused_too_long: u64,
+    pub refused_columns: u64,
+    pub refused_position: u64,
+    pub refused_score: u64,
+    pub refused_strand: u64,
+    pub refused_phase: u64,
+    pub refused_attribute: u64,
+    pub lengths: [u64; 64],
+}
+
 extern "C" {
     pub fn gff3_next_line(text: *const u8, text_len: usize, at: usize) -> Line;
     pub fn gff3_kind(line: *const u8, line_len: usize) -> u32;
@@ -214,4 +232,5 @@ extern "C" {
         out_len: usize,
     ) -> Written;
     pub fn gff3_write_comment(text: *const u8, text_len: usize, out: *mut u8, out_len: usize) -> Written;
+    pub fn gff3_report(text: *const u8, text_len: usize) -> Morning;
 }

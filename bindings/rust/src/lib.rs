@@ -12,6 +12,7 @@ mod parts;
 mod reader;
 mod record;
 mod refusal;
+mod report;
 mod sheet;
 mod writing;
 
@@ -24,5 +25,6 @@ pub use parts::Parts;
 pub use reader::{IntoLines, ReadError, Reader};
 pub use record::{Bounds, Record};
 pub use refusal::Refusal;
+pub use report::{Report, report};
 pub use sheet::{Judged, Sheet, judge};
 pub use writing::{Value, write_comment, write_comment_into, write_directive, write_directive_into};

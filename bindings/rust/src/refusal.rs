@@ -108,6 +108,8 @@ pub enum Refusal {
     TooLong = 24,
     /// the line has more than 65,536 bytes
     LineTooLong = 25,
+    /// the lengths add up to more than 18446744073709551615
+    Sum = 26,
     /// the hold has not 65,536 bytes, or the state says that it holds more
     Hold = 34,
 }

@@ -10,8 +10,8 @@ fn refusals_have_numbers_and_words() {
     let numbers: Vec<_> = refusals.iter().map(|refusal| refusal.number()).collect();
     let reasons: HashSet<_> = refusals.iter().map(|refusal| refusal.reason()).collect();
 
-    assert_eq!(numbers, Vec::from_iter((1..=25).chain([34])));
-    assert_eq!(reasons.len(), 26);
+    assert_eq!(numbers, Vec::from_iter((1..=26).chain([34])));
+    assert_eq!(reasons.len(), 27);
     assert!(
         reasons
             .iter()

@@ -24,6 +24,8 @@ use Rattle.read_version.proofs as read-version
 use Rattle.read_directives.proofs as read-directives
 use Rattle.read_judge.proofs as read-judge
 use Rattle.read_record.proofs as read-record
+use Rattle.read_verdict.proofs as read-verdict
+use Rattle.read_report.proofs as read-report
 use Rattle.write_comment.proofs as write-comment
 use Rattle.write_directive.proofs as write-directive
 use Rattle.write_measure.proofs as write-measure
@@ -84,6 +86,9 @@ calls =
       write-directive = record { does = λ M. write-directive.write_directive.Met.met; one = wrote-one };
       write-comment = record { does = λ M. write-comment.write_comment.Met.met; one = wrote-one };
       judge = told (λ M. read-judge.judge.Met.met);
+      judge-numbers = told (λ M. read-judge.judge_numbers.Met.met);
       survey = told (λ M. read-judge.survey.Met.met);
       «unfold» = record { does = λ M. read-record.unfold.Met.met; one = unfolds-one };
+      verdict-of = told (λ M. read-verdict.verdict_of.Met.met);
+      report-of = told (λ M. read-report.report_of.Met.met);
     }

@@ -10,6 +10,7 @@ use Rattle.c_fields.proofs as c-fields
 use Rattle.c_attributes.proofs as c-attributes
 use Rattle.c_coding.proofs as c-coding
 use Rattle.c_unfold.proofs as c-unfold
+use Rattle.c_report.proofs as c-report
 use Rattle.c_write.proofs as c-write
 use Rattle.promise_calls.specs.InC.{InC}
 use Rattle.promise_calls.proofs.DoesLaws.{told}
@@ -46,4 +47,5 @@ in-c =
       gff3-write-comment = record { does = λ M. c-write.gff3_write_comment.Met.met; one = c-wrote-one };
       gff3-judge = told (λ M. c-unfold.gff3_judge.Met.met);
       gff3-unfold = record { does = λ M. c-unfold.gff3_unfold.Met.met; one = as-c-one (λ u v. unfolds-one) };
+      gff3-report = told (λ M. c-report.gff3_report.Met.met);
     }

@@ -2,11 +2,16 @@
 use Prim.Native.Nat.{ℕ, zero, suc}
 use native.Mathlib.Omega.{arith}
 use mathlib.Core.Path.{_≡_, refl}
-use mathlib.Core.List.{[], _∷_}
+use mathlib.Core.Logic.{_≢_}
+use mathlib.Core.List.{List, [], _∷_}
+use lib.Dec.{ltb}
 use lib.ListN.{replicate}
+use Rattle.base_lists.proofs.BoolLaws.{by-test}
 use Rattle.base_buffer.specs.declared.Written.the-variants as written
 use Rattle.base_buffer.specs.Answer.{number, needed}
+use Rattle.read_numbers.specs.Number.{most64}
 use Rattle.read_lines.specs.declared.Next.the-variants as line
+use Rattle.read_lines.specs.Lines.{lines}
 use Rattle.read_parts.specs.declared.Part.the-variants as lines-part
 use Rattle.read_kind.specs.declared.comment.CommentText.the-variants as comment
 use Rattle.read_kind.specs.declared.directive.DirectiveText.the-variants as directive
@@ -27,8 +32,10 @@ use Rattle.read_directives.specs.declared.sequence_region.RegionRead.the-varian
 use Rattle.read_directives.specs.declared.genome_build.BuildRead.the-variants as build
 use Rattle.read_judge.specs.declared.judging.Judged.the-variants as judge
 use Rattle.read_record.specs.declared.lay.Unfolded.the-variants as unfolded
+use Rattle.read_report.specs.Report.{nothing, counted, morning}
 use Rattle.c_directives.specs.Directive.{c-parts}
-use Rattle.promise_calls.specs.NoField.{Zeros, NoField}
+use Rattle.c_report.specs.Report.{c-morning}
+use Rattle.promise_calls.specs.NoField.{Zeros, counts, NoField}
 
 -- as many zeros as are asked for
 zeros : (n : ℕ) → Zeros (replicate n 0)
@@ -51,6 +58,13 @@ module _ (refused major : ℕ) where
   patch-absent part.Absent patch h = absurd (omega arith)
   patch-absent (part.Is minor) part.Absent h = zeros 1
   patch-absent (part.Is minor) (part.Is patch) h = absurd (omega arith)
+
+-- a refused report counts nothing
+report-refused : (s : List ℕ) → c-morning (morning s) .refused ≢ 0 → Zeros (counts (c-morning (morning s)))
+unfolding morning
+report-refused s =
+    by-test (λ m. c-morning m .refused ≢ 0 → Zeros (counts (c-morning m))) (ltb most64 (counted nothing (lines s) .totals .sum)) (λ e h. zeros 76)
+    (λ e h. absurd (h refl))
 
 pub no-field : NoField
 unfolding number needed
@@ -112,6 +126,7 @@ no-field =
             | unfolded.Refused n ↦ λ h. zeros 1
             | unfolded.NoRoom n ↦ λ h. absurd (h .1 refl)
           ];
+      report = report-refused;
       written-length =
           elim [
             | written.Done n ↦ λ h. absurd (h .0 refl)

@@ -25,9 +25,11 @@ use Rattle.read_lookup.specs.Lookup as lookup
 use Rattle.read_version.specs.GffVersion.{version-of}
 use Rattle.read_directives.specs.GenomeBuild.{build-of}
 use Rattle.read_directives.specs.SequenceRegion.{region-of}
-use Rattle.read_judge.specs.Judge.{judged}
+use Rattle.read_judge.specs.Judge.{judged, numbers-judged}
 use Rattle.read_judge.specs.Survey.{surveyed}
 use Rattle.read_record.specs.Unfold.{Unfolds}
+use Rattle.read_verdict.specs.Verdict.{verdict}
+use Rattle.read_report.specs.Report.{morning}
 use Rattle.write_comment.specs.Comment.{comment-reasons, comment-line}
 use Rattle.write_directive.specs.Directive.{directive-reasons, directive-line}
 use Rattle.write_measure.specs.Record.{measured, record-reasons, record-line}
@@ -48,6 +50,8 @@ use Rattle.read_version.proofs as read-version
 use Rattle.read_directives.proofs as read-directives
 use Rattle.read_judge.proofs as read-judge
 use Rattle.read_record.proofs as read-record
+use Rattle.read_verdict.proofs as read-verdict
+use Rattle.read_report.proofs as read-report
 use Rattle.write_comment.proofs as write-comment
 use Rattle.write_directive.proofs as write-directive
 use Rattle.write_measure.proofs as write-measure
@@ -158,7 +162,14 @@ pub record Calls : Type 2 where
   -- RULES 9: the field sheet
   pub judge : Gives read-judge.judge.ended read-judge.judge.Symbol.routine
       (λ _ (line, _). judged (now line))
+  pub judge-numbers : Gives read-judge.judge_numbers.ended read-judge.judge_numbers.Symbol.routine
+      (λ _ (line, _). numbers-judged (judged (now line)))
   pub survey : Gives read-judge.survey.ended read-judge.survey.Symbol.routine
       (λ _ (line, _). surveyed (now line))
   pub «unfold» : Fills read-record.unfold.ended read-record.unfold.Symbol.routine (λ _ (_, (out, _)). now out)
       (λ _ (line, (out, _)). Unfolds (now line) (now out))
+  -- RULES 17: the morning's report
+  pub verdict-of : Gives read-verdict.verdict_of.ended read-verdict.verdict_of.Symbol.routine
+      (λ _ (line, _). verdict (now line))
+  pub report-of : Gives read-report.report_of.ended read-report.report_of.Symbol.routine
+      (λ _ (text, _). morning (now text))

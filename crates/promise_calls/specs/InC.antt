@@ -17,6 +17,7 @@ use Rattle.read_version.specs.GffVersion.{version-of}
 use Rattle.read_directives.specs.GenomeBuild.{build-of}
 use Rattle.read_directives.specs.SequenceRegion.{region-of}
 use Rattle.read_judge.specs.Judge.{judged}
+use Rattle.read_report.specs.Report.{morning}
 use Rattle.write_comment.specs.Comment.{comment-reasons, comment-line}
 use Rattle.write_directive.specs.Directive.{directive-reasons, directive-line}
 use Rattle.write_measure.specs.Record.{record-reasons, record-line}
@@ -29,6 +30,7 @@ use Rattle.c_fields.specs.Fields.{text-column-of-c, c-text-reasons, c-text, c-s
 use Rattle.c_attributes.specs.Attribute.{c-next-field, c-next-value, c-found}
 use Rattle.c_coding.specs.Coding.{set-of-c}
 use Rattle.c_unfold.specs.Sheet.{c-judged, CUnfolds}
+use Rattle.c_report.specs.Report.{c-morning}
 use Rattle.c_write.specs.Value.{value-of-c}
 use Rattle.c_lines.proofs as c-lines
 use Rattle.c_parts.proofs as c-parts
@@ -38,6 +40,7 @@ use Rattle.c_fields.proofs as c-fields
 use Rattle.c_attributes.proofs as c-attributes
 use Rattle.c_coding.proofs as c-coding
 use Rattle.c_unfold.proofs as c-unfold
+use Rattle.c_report.proofs as c-report
 use Rattle.c_write.proofs as c-write
 use Rattle.promise_calls.specs.Does.{Gives, Fills}
 
@@ -112,3 +115,6 @@ pub record InC : Type 2 where
       (λ _ (line, _). c-judged (judged (now line)))
   pub gff3-unfold : Fills c-unfold.gff3_unfold.ended c-unfold.gff3_unfold.Symbol.routine (λ _ (_, (out, _)). now out)
       (λ _ (line, (out, _)). CUnfolds (now line) (now out))
+  -- RULES 17: the morning's report
+  pub gff3-report : Gives c-report.gff3_report.ended c-report.gff3_report.Symbol.routine
+      (λ _ (text, _). c-morning (morning (now text)))

@@ -17,6 +17,9 @@ use Rattle.c_columns.specs.Columns.{c-indexed, c-place}
 use Rattle.c_fields.specs.Fields.{c-score, c-strand, c-phase}
 use Rattle.c_attributes.specs.Attribute.{c-field, c-value, c-found}
 use Rattle.c_unfold.specs.Sheet.{c-judged, c-unfolded}
+use Rattle.read_report.specs.Report.{morning}
+use Rattle.c_report.specs.declared.Gff3Morning.{Gff3Morning}
+use Rattle.c_report.specs.Report.{c-morning}
 
 -- each of them is 0
 abbrev pub Zeros : List ℕ → Type 0
@@ -25,6 +28,12 @@ Zeros = Every (λ n. n ≡ 0)
 -- of every answer of the library, as C gets it: where it says that there is nothing to hand out, these of its numbers are 0
 abbrev pub Bare : {A B : Type 0} → (A → B) → (B → Type 0) → (B → List ℕ) → Type 0
 Bare {A} in-c nothing numbers = (answer : A) → nothing (in-c answer) → Zeros (numbers (in-c answer))
+
+-- all that a report counts
+abbrev pub counts : Gff3Morning → List ℕ
+counts r =
+    r .records ∷ r .directives ∷ r .comments ∷ r .reversed ∷ r .sum ∷ r .«refused_too_long» ∷ r .«refused_columns» ∷ r .«refused_position»
+    ∷ r .«refused_score» ∷ r .«refused_strand» ∷ r .«refused_phase» ∷ r .«refused_attribute» ∷ r .lengths
 
 pub record NoField : Type 0 where
   -- refused
@@ -50,6 +59,7 @@ pub record NoField : Type 0 where
   pub judged : Bare c-judged (λ r. r .refused ≢ 0) (λ r. r .length ∷ r .start ∷ r .end ∷ r .strand ∷ r .phase ∷ [])
   pub unfolded : Bare c-unfolded (λ r. r .refused ≢ 0) (λ r. r .start ∷ r .end ∷ r .strand ∷ r .phase ∷ [])
   pub unfolded-length : Bare c-unfolded (λ r. (r .refused ≢ 0) × (r .refused ≢ 22)) (λ r. r .length ∷ [])
+  pub report : Bare (λ text. c-morning (morning text)) (λ r. r .refused ≢ 0) counts
   pub written-length : Bare c-written (λ r. (r .refused ≢ 0) × (r .refused ≢ 22)) (λ r. r .length ∷ [])
   -- done
   pub line-done : (here : ℕ) → Bare (c-line here) (λ r. r .done ≢ 0) (λ r. r .start ∷ r .end ∷ [])

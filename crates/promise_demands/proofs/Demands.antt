@@ -30,7 +30,10 @@ use Rattle.promise_calls.proofs.NoField.{no-field}
 use Rattle.promise_demands.specs.Item.{Item, reasons-of, line-of, Accepted, ReadsBack}
 use Rattle.promise_survival.specs.Survivors.{lines-of, text-of, before, after}
 use Rattle.promise_survival.specs.Survival.{ByLines}
-use Rattle.promise_demands.specs.Demand.{Demand1, Demand2, Demand3, gff3, HandsOut, whole-text, in-parts}
+use Rattle.read_verdict.proofs.VerdictLaws.{sound as verdict-sound}
+use Rattle.read_report.proofs.AddLaws.{power-is}
+use Rattle.read_report.proofs.SumLaws.{adds-up, passed, not-passed}
+use Rattle.promise_demands.specs.Demand.{Demand1, Demand2, Demand3, Counts, gff3, HandsOut, whole-text, in-parts}
 use Rattle.promise_demands.proofs.AnswerLaws.{writes, item-numbered, unfold-answers, take-part-answers, end-parts-answers, no-fields}
 use Rattle.promise_demands.proofs.ItemLaws.{sound, done-accepted, again-accepted}
 use Rattle.promise_survival.proofs.Stretch.{survival}
@@ -94,6 +97,17 @@ demand3 =
       one-call = λ s d d' r ok. one-call ok;
       written = done-accepted;
       again = again-accepted;
+    }
+
+-- the numbers of a report come to what they should
+pub counts : Counts
+counts =
+    record {
+      verdicts = verdict-sound;
+      powers = power-is;
+      adds-up = adds-up;
+      passed = passed;
+      stays = not-passed;
     }
 
 -- ── demand 3 spelled out ──────────────────────────────────────────────────────────────────────

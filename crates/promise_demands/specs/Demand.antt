@@ -2,7 +2,7 @@
 -- `{x : A} → B` for every x of the kind A, B; `(x : A) × B` there is an x of the kind A such that B; `A × B` both; `≡` is; `≢` is not; `∷`
 -- followed by more; `++` followed by a text or list; `Every P l` P holds of each one in l; `ℕ` a number, a byte among them. Assumes nothing:
 -- these are definitions.
-use Prim.Native.Nat.{ℕ, _*_, _-_, _<_, _≤_}
+use Prim.Native.Nat.{ℕ, suc, _*_, _-_, _^_, _<_, _≤_}
 use mathlib.Core.Path.{_≡_}
 use mathlib.Core.Logic.{_≢_}
 use mathlib.Core.Bool.{true, false}
@@ -53,6 +53,11 @@ use Rattle.read_judge.specs.Judge.{unfolded, unfold-reasons}
 use Rattle.read_record.specs.declared.lay.Unfolded.{Unfolded}
 use Rattle.read_record.specs.declared.lay.Unfolded.the-variants as outcome
 use Rattle.read_record.specs.Unfold.{as-written, Unfolds}
+use Rattle.read_lines.specs.Lines.{lines}
+use Rattle.read_numbers.specs.Number.{most64}
+use Rattle.read_verdict.specs.Verdict.{verdict, Sound}
+use Rattle.read_report.specs.Report.{power, nothing, counted, morning}
+use Rattle.read_report.specs.Sums.{lengths-of, AddsUp}
 use Rattle.promise_roundtrip.specs.Again.{reasons-left}
 use Rattle.promise_calls.specs.Calls.{Calls}
 use Rattle.promise_calls.specs.Blocks.{Blocks}
@@ -202,3 +207,17 @@ pub record Demand3 : Type 0 where
   pub written : (i : Item) → Typed i → (d d' : List ℕ) (r : Written) → Wrote (reasons-of i) (line-of i) d d' r → Accepts i d d' r
   -- any line of bytes that unfolding does not refuse
   pub again : (line : List ℕ) → Bytes line → refusal-of (unfold-reasons line) ≡ 0 → Again line
+
+-- ── the morning's report ──────────────────────────────────────────────────────────────────────
+
+-- RULES 17.6: "Records, directives, comments and refused lines add up to the number of lines handed out, counted from the text itself; the
+-- sixty-four and the reversed ones add up to the records; the sum of lengths is exact; no count can wrap."
+pub record Counts : Type 0 where
+  -- the numbers of a record are positions, and a refused line is refused by one of the seven
+  pub verdicts : (line : List ℕ) → Sound (verdict line)
+  -- a length lies in the one power of two that it has reached, and not passed
+  pub powers : (n i : ℕ) → i < 64 → 2 ^ i ≤ n → n < 2 ^ suc i → power n ≡ i
+  pub adds-up : (s : List ℕ) → AddsUp s (counted nothing (lines s))
+  -- 26 exactly where the exact sum passes 18446744073709551615, and then nothing is counted
+  pub passed : (s : List ℕ) → most64 < lengths-of s → morning s ≡ record { refused = 26; report = nothing }
+  pub stays : (s : List ℕ) → lengths-of s ≤ most64 → morning s ≡ record { refused = 0; report = counted nothing (lines s) }

@@ -89,6 +89,21 @@ pub refused-stuck : stuck (attributes refused) ≡ true
 unfolding attributes
 refused-stuck = refl
 
+pub done-unstuck : stuck (attributes done) ≡ false
+unfolding attributes
+done-unstuck = refl
+
+-- a walk is stuck where the rest of it is
+pub stuck-next : {s : List ℕ} {at : ℕ} {field : Field} → Hands s at field
+    → stuck (attributes (walk-from s at)) ≡ stuck (attributes (walk-from s (field .next)))
+unfolding attributes
+stuck-next {s} {at} {field} h =
+    rw (h .met) (go (attribute (text-at (field .tag) s) (text-at (field .value) s)) (attributes (walk-from s (field .next))))
+  where
+    go : (a : Attribute) (o : Option (List Attribute)) → stuck (and-before a o) ≡ stuck o
+    go a none = refl
+    go a (some l) = refl
+
 -- ── bounds ────────────────────────────────────────────────────────────────────────────────────
 
 attribute-few : (tag value : List ℕ) → length (attribute-of (attribute tag value)) ≤ 12 + length tag + 4 * length value

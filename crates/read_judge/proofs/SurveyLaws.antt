@@ -22,13 +22,13 @@ use Rattle.read_attributes.specs.Attributes.{Attribute, attributes, walk}
 use Rattle.sheet_form.specs.Sheet.{attribute-of, sheet-of}
 use Rattle.sheet_form.proofs.LengthLaws.{length-sheet}
 use Rattle.read_judge.specs.declared.judging.Numbers.{Numbers}
-use Rattle.read_judge.specs.declared.judging.MiddleRead.{MiddleRead}
-use Rattle.read_judge.specs.declared.judging.MiddleRead.the-variants as middle-read
+use Rattle.read_judge.specs.declared.judging.NumbersRead.{NumbersRead}
+use Rattle.read_judge.specs.declared.judging.NumbersRead.the-variants as numbers-read
 use Rattle.read_judge.specs.declared.judging.Surveyed.{Surveyed}
 use Rattle.read_judge.specs.declared.judging.Surveyed.the-variants.{Is, Refused}
 use Rattle.read_judge.specs.declared.judging.Size.the-variants as size
 use Rattle.read_judge.specs.Judge.{score-of-token, got, unfolded, numbers-of, stuck, middle-reasons, attributes-reasons}
-use Rattle.read_judge.specs.Judge.{unfold-reasons}
+use Rattle.read_judge.specs.Judge.{field-reasons, unfold-reasons}
 use Rattle.read_judge.specs.Survey.{survey-of, surveyed}
 use Rattle.read_judge.specs.Inner.Fields.{middle-of, survey-fields}
 use Rattle.read_judge.specs.Inner.Size.{texts-length, sized}
@@ -52,34 +52,47 @@ sized-refused : (o : Option (List Attribute)) → sized o ≡ size.Refused → s
 sized-refused none e = refl
 sized-refused (some l) e = absurd (let z : _≡_ {A = ℕ} 0 1 = cc in omega arith)
 
-module _ (s : List ℕ) where
-  -- what is answered of them by columns 4 to 8
-  abbrev behind : MiddleRead → Surveyed
-  behind (middle-read.Is numbers) =
-      unless Refused (refusal-of (attributes-reasons s))
-      (Is numbers (ends s) (length (unfolded s .attributes)) (length (sheet-of (unfolded s))))
-  behind (middle-read.Refused n) = Refused n
+-- any answer by the numbers: columns 4 to 8 refuse it, and then column 9
+module _ {A : Type 0} (refused : ℕ → A) (answer : Numbers → A) (s : List ℕ) where
+  abbrev behind : NumbersRead → A
+  behind (numbers-read.Is numbers) = unless refused (refusal-of (attributes-reasons s)) (answer numbers)
+  behind (numbers-read.Refused n) = refused n
 
-  pub fields-by : {m : MiddleRead} → middle-of s ≡ m → behind m ≡ survey-fields s
+  pub fields-by : {m : NumbersRead} → middle-of s ≡ m → behind m ≡ unless refused (refusal-of (field-reasons s)) (answer (numbers-of s))
   fields-by e =
       rw (← e)
-      (unless-map middle-read.Refused behind (refusal-of (middle-reasons s)) (middle-read.Is (numbers-of s))
-      ∙ sym (unless-append Refused (middle-reasons s) (attributes-reasons s) (survey-of s) (middle-numbered s)))
+      (unless-map numbers-read.Refused behind (refusal-of (middle-reasons s)) (numbers-read.Is (numbers-of s))
+      ∙ sym (unless-append refused (middle-reasons s) (attributes-reasons s) (answer (numbers-of s)) (middle-numbered s)))
 
-  module _ {numbers : Numbers} (e : middle-of s ≡ middle-read.Is numbers) where
-    pub attributes-refused : sized (attributes (walk (column-text column.Attributes s))) ≡ size.Refused → Refused 5 ≡ survey-fields s
+  module _ {numbers : Numbers} (e : middle-of s ≡ numbers-read.Is numbers) where
+    pub stuck-refuses : stuck (attributes (walk (column-text column.Attributes s))) ≡ true
+        → refused 5 ≡ unless refused (refusal-of (field-reasons s)) (answer (numbers-of s))
     unfolding unless
-    attributes-refused h = rw (← fields-by e, sized-refused (attributes (walk (column-text column.Attributes s))) h)
+    stuck-refuses h = rw (← fields-by e, h)
 
     -- no reason holds
+    pub unstuck-answers : stuck (attributes (walk (column-text column.Attributes s))) ≡ false
+        → answer numbers ≡ unless refused (refusal-of (field-reasons s)) (answer (numbers-of s))
+    unfolding unless
+    unstuck-answers h = rw (← fields-by e, h)
+
+module _ (s : List ℕ) where
+  -- what a survey answers by the numbers
+  abbrev pub with-numbers : Numbers → Surveyed
+  with-numbers numbers = Is numbers (ends s) (length (unfolded s .attributes)) (length (sheet-of (unfolded s)))
+
+  module _ {numbers : Numbers} (e : middle-of s ≡ numbers-read.Is numbers) where
+    pub attributes-refused : sized (attributes (walk (column-text column.Attributes s))) ≡ size.Refused → Refused 5 ≡ survey-fields s
+    attributes-refused h = stuck-refuses Refused with-numbers s e (sized-refused (attributes (walk (column-text column.Attributes s))) h)
+
     pub fields-are : {b : Bounds} {k n t : ℕ} → b ≡ ends s → sized (attributes (walk (column-text column.Attributes s))) ≡ size.Is k n
         → t ≡ texts-length (unfolded s)
         → Is numbers b k (t + 4 + n) ≡ survey-fields s
-    unfolding unless unfolded
+    unfolding unfolded
     fields-are {b} {k} {n} {t} own h texts =
         let z = sized-is (attributes (walk (column-text column.Attributes s))) h in
         let l : t + 4 + n ≡ length (sheet-of (unfolded s)) = omega (arith, length-sheet (unfolded s)) in
-        rw (← fields-by e, z .0, own, z .1, l)
+        rw (own, z .1, l) (unstuck-answers Refused with-numbers s e (z .0))
 
 -- ── how long a sheet is at most ───────────────────────────────────────────────────────────────
 

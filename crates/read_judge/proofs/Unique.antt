@@ -6,6 +6,8 @@ use Rattle.read_judge.proofs.judging.survey.Kinds as survey-kinds
 use Rattle.read_judge.proofs.judging.survey.Reads as survey
 use Rattle.read_judge.proofs.judging.judge.Kinds as judge-kinds
 use Rattle.read_judge.proofs.judging.judge.Reads as judging
+use Rattle.read_judge.proofs.numbers.judge_numbers.Kinds as judge-numbers-kinds
+use Rattle.read_judge.proofs.numbers.judge_numbers.Reads as judge-numbers
 use Rattle.read_judge.proofs.texts.score.Kinds as score-kinds
 use Rattle.read_judge.proofs.texts.score.Reads as score
 
@@ -14,6 +16,9 @@ survey-one κs a x y s t p q = p ∙ sym q
 
 judge-one : OneResult 1 judge-kinds.ps judge-kinds.r judging.Post
 judge-one κs a x y s t p q = p ∙ sym q
+
+judge-numbers-one : OneResult 1 judge-numbers-kinds.ps judge-numbers-kinds.r judge-numbers.Post
+judge-numbers-one κs a x y s t p q = p ∙ sym q
 
 score-one : OneShown 1 score-kinds.ps score-kinds.r score.Post (λ κs x. now x)
 score-one κs a x y s t p q = p .0 ∙ sym (q .0)

@@ -29,6 +29,8 @@ use Rattle.sheet_form.specs.Sheet.{Sheet, sheet-of}
 use Rattle.read_judge.specs.declared.judging.Numbers.{Numbers}
 use Rattle.read_judge.specs.declared.judging.Judged.{Judged}
 use Rattle.read_judge.specs.declared.judging.Judged.the-variants as judge
+use Rattle.read_judge.specs.declared.judging.NumbersRead.{NumbersRead}
+use Rattle.read_judge.specs.declared.judging.NumbersRead.the-variants as numbers-read
 
 -- ── the sheet ──
 
@@ -124,3 +126,8 @@ unfold-reasons s = (24 when ltb most-line (length s)) ∷ (1 when not (has-colum
 
 abbrev pub judged : List ℕ → Judged
 judged s = unless judge.Refused (refusal-of (unfold-reasons s)) (judge.Is (numbers-of s) (length (sheet-of (unfolded s))))
+
+-- the numbers of it alone
+abbrev pub numbers-judged : Judged → NumbersRead
+numbers-judged (judge.Is numbers length) = numbers-read.Is numbers
+numbers-judged (judge.Refused n) = numbers-read.Refused n

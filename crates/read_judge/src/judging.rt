@@ -45,10 +45,10 @@ pub enum Surveyed {
     Refused(u32),
 }
 
-// Columns 4 to 8.
-enum MiddleRead {
+// The numbers alone.
+pub enum NumbersRead {
     Is(Numbers),
-    // 2, 17, 3 or 4.
+    // As `Judged`.
     Refused(u32),
 }
 
@@ -125,31 +125,31 @@ fn texts_len(line: &[u8], bounds: Bounds) -> usize
 }
 
 // Columns 4 to 8 of a record whose bounds these are. Refusals, in order: 2 (start, then end), 17, 3, 4.
-fn middle_of(line: &[u8], bounds: Bounds) -> MiddleRead
+pub(crate) fn middle_of(line: &[u8], bounds: Bounds) -> NumbersRead
     requires { ⌜ bounds ≡ ends (now line) ⌝ }
     ensures { λ r. ⌜ r ≡ middle-of (now (line .entry)) ⌝ }
 {
     let start_text = read_columns::text_in(line, bounds, Column::Start);
     let PositionRead::Is(start) = read_tokens::position_of(start_text) else {
-        return MiddleRead::Refused(2);
+        return NumbersRead::Refused(2);
     };
     let end_text = read_columns::text_in(line, bounds, Column::End);
     let PositionRead::Is(end) = read_tokens::position_of(end_text) else {
-        return MiddleRead::Refused(2);
+        return NumbersRead::Refused(2);
     };
     let token = read_columns::text_in(line, bounds, Column::Score);
     if !(base_words::is_dot(token) | read_score::is_score(token)) {
-        return MiddleRead::Refused(17);
+        return NumbersRead::Refused(17);
     }
     let strand_text = read_columns::text_in(line, bounds, Column::Strand);
     let StrandRead::Is(strand) = read_tokens::strand_of(strand_text) else {
-        return MiddleRead::Refused(3);
+        return NumbersRead::Refused(3);
     };
     let phase_text = read_columns::text_in(line, bounds, Column::Phase);
     let PhaseRead::Is(phase) = read_tokens::phase_of(phase_text) else {
-        return MiddleRead::Refused(4);
+        return NumbersRead::Refused(4);
     };
-    MiddleRead::Is(Numbers {
+    NumbersRead::Is(Numbers {
         start,
         end,
         strand,
@@ -163,14 +163,14 @@ fn survey_fields(line: &[u8], bounds: Bounds) -> Surveyed
     ensures { λ r. ⌜ r ≡ survey-fields (now (line .entry)) ⌝ }
 {
     match middle_of(line, bounds) {
-        MiddleRead::Is(numbers) => {
+        NumbersRead::Is(numbers) => {
             let rest = read_columns::text_in(line, bounds, Column::Attributes);
             let Size::Is(count, length) = attributes_size(rest) else {
                 return Surveyed::Refused(5);
             };
             Surveyed::Is(numbers, bounds, count, texts_len(line, bounds) + 4 + length)
         }
-        MiddleRead::Refused(n) => Surveyed::Refused(n),
+        NumbersRead::Refused(n) => Surveyed::Refused(n),
     }
 }
 

@@ -104,6 +104,48 @@ pub fn whole(mut text: &[u8]) -> (u64, u64) {
     (count, sum)
 }
 
+/// Lines that are no records, or records whose start, end and attributes are read; and the sum of the lengths of those whose start is not
+/// above their end. Calls the inner `read_line` of io/reader.rs, `Line::kind` and `Line::as_record` of line.rs, `Record::start`, `end` and
+/// `attributes` of record.rs, and `next` of record/attributes/field.rs.
+#[inline(never)]
+pub fn report(mut text: &[u8]) -> (u64, u64) {
+    let mut line = Line::default();
+    let (mut count, mut sum) = (0, 0);
+
+    while take_line(&mut text, &mut line.0) {
+        if line.0.is_empty() {
+            continue;
+        }
+
+        if line.kind() != Kind::Record {
+            count += 1;
+            continue;
+        }
+
+        if let Some(length) = length(&line) {
+            count += 1;
+            sum += length;
+        }
+    }
+
+    (count, sum)
+}
+
+/// The length of a record that is read, or 0 where its start is above its end.
+#[inline]
+fn length(line: &Line) -> Option<u64> {
+    let record = line.as_record()?.ok()?;
+    let (start, end) = (usize::from(record.start().ok()?), usize::from(record.end().ok()?));
+    let attributes = record.attributes();
+    let mut rest = attributes.as_ref();
+
+    while let Some(field) = Door::next(&mut rest) {
+        field.ok()?;
+    }
+
+    Some(end.checked_sub(start).map_or(0, |far| far as u64 + 1))
+}
+
 /// Lines that are read as records and written again, and the sum of the lengths of their new lines; one buffer for all lines.
 /// Calls `rewrite_record` of the API on each line.
 #[inline(never)]

@@ -8,10 +8,11 @@ use Rattle.base_lists.specs.Limits.{most-line}
 use Rattle.read_columns.specs.declared.column.Column.the-variants as column
 use Rattle.read_columns.specs.Columns.{column-text}
 use Rattle.read_attributes.specs.Attributes.{attributes, walk}
-use Rattle.read_judge.specs.declared.judging.MiddleRead.the-variants as middle-read
+use Rattle.read_judge.specs.declared.judging.NumbersRead.the-variants as numbers-read
+use Rattle.read_judge.specs.declared.judging.Surveyed.the-variants.{Refused}
 use Rattle.read_judge.specs.Inner.Fields.{middle-of}
 use Rattle.read_judge.specs.Inner.Size.{sized}
-use Rattle.read_judge.proofs.SurveyLaws.{fields-by, attributes-refused, fields-are, size-few}
+use Rattle.read_judge.proofs.SurveyLaws.{fields-by, with-numbers, attributes-refused, fields-are, size-few}
 use Rattle.read_judge.proofs.judging.survey_fields.Statement.{statement}
 use Rattle.read_judge.proofs.judging.survey_fields.Tie as tie
 
@@ -19,7 +20,7 @@ abbrev from-numbers : tie.After-numbers → tie.Start
 from-numbers c = c .before .before .before .before
 
 -- columns 4 to 8 are not refused
-middle : (c : tie.After-numbers) → middle-of (from-numbers c .args .line .now) ≡ middle-read.Is (c .numbers .given .0 .0)
+middle : (c : tie.After-numbers) → middle-of (from-numbers c .args .line .now) ≡ numbers-read.Is (c .numbers .given .0 .0)
 middle c = sym (c .before .before .middle-of .ensures) ∙ c .numbers .given .1
 
 abbrev from-size : tie.After-attributes-size → tie.After-numbers
@@ -53,7 +54,8 @@ returns-2 c =
 returns-3 : tie.Need-returns-3
 returns-3 c =
     let m = c .before .before .before in
-    fields-by (m .before .before .args .line .now) (sym (m .middle-of .ensures) ∙ c .before .n .given .1)
+    let s = m .before .before .args .line .now in
+    fields-by Refused (with-numbers s) s (sym (m .middle-of .ensures) ∙ c .before .n .given .1)
 
 pub survey-fields-spec : {M : Type 1} → statement M
 survey-fields-spec =

@@ -1,0 +1,4 @@
+pub mod AddLaws
+pub mod SumLaws
+mod Samples
+mod Unique

@@ -1,0 +1,3 @@
+pub mod VerdictLaws
+mod Samples
+mod Unique
