@@ -2,13 +2,13 @@
 -- result. Assumes nothing.
 use native.Mathlib.Omega.{arith}
 use mathlib.Core.Path.{_≡_, refl, sym, ap, _∙_}
-use mathlib.Core.Logic.{_≢_}
+use mathlib.Core.Logic.{_≢_, _⊎_, inl, inr}
 use mathlib.Core.Bool.{Bool, true, false, cond}
 use mathlib.Core.List.{List, [], _∷_, _++_}
 use Prim.Native.Nat.{ℕ, zero, suc, _≤_, _<_}
 use lib.ListN.{length, drop}
 use borrow.Author.Tests.{lt-ltb, le-ltb}
-use Rattle.base_lists.specs.Bytes.{Every}
+use Rattle.base_lists.specs.Bytes.{Every, among}
 use Rattle.base_buffer.specs.declared.Written.{Written}
 use Rattle.base_buffer.specs.declared.Written.the-variants.{Done, Refused, NoRoom}
 use Rattle.base_buffer.specs.Answer.{Reason, _when_, refusal-of, unless, number, answer, contents, Wrote}
@@ -44,6 +44,17 @@ refusal-append (x ∷ xs) ys h = go (x .holds) (x .number) (h .0) (refusal-appen
     go true zero p more = absurd (omega arith)
     go true (suc n) p more = refl
     go false n p more = more
+
+-- the first reason that holds has one of their numbers
+pub first-among : (numbers : List ℕ) (xs : List Reason) → Every (λ x. among numbers (x .number) ≡ true) xs
+    → (refusal-of xs ≡ 0) ⊎ (among numbers (refusal-of xs) ≡ true)
+first-among numbers [] h = inl refl
+first-among numbers (x ∷ xs) h = go (x .holds) (first-among numbers xs (h .1))
+  where
+    go : (t : Bool) → (refusal-of xs ≡ 0) ⊎ (among numbers (refusal-of xs) ≡ true)
+        → (cond t (x .number) (refusal-of xs) ≡ 0) ⊎ (among numbers (cond t (x .number) (refusal-of xs)) ≡ true)
+    go true rest = inr (h .0)
+    go false rest = rest
 
 -- 22 comes last: an answer's number is that of the first reason, the lack of room behind all others
 pub number-answer : (reasons : List Reason) (long : Bool) (need : ℕ) → Numbered reasons

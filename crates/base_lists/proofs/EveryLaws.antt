@@ -1,10 +1,12 @@
 -- Laws of `Every`. Assumes nothing.
 use Prim.Native.Nat.{ℕ}
-use mathlib.Core.Path.{_≡_, sym, ap, _∙_}
+use mathlib.Core.Path.{_≡_, refl, sym, ap, _∙_}
 use mathlib.Core.Logic.{_≢_}
-use mathlib.Core.Bool.{Bool, true, false, true≢false}
+use mathlib.Core.Bool.{Bool, true, false, _||_, true≢false}
 use mathlib.Core.List.{List, [], _∷_, _++_, map}
-use Rattle.base_lists.specs.Bytes.{Every, Lacks}
+use lib.Dec.{eqb}
+use borrow.Author.Tests.{eqb-true}
+use Rattle.base_lists.specs.Bytes.{Every, Lacks, among}
 
 pub every-append {ℓ} : {A : Type ℓ} (P : A → Type 0) (a b : List A) → Every P a → Every P b → Every P (a ++ b)
 every-append P [] b p q = q
@@ -32,3 +34,12 @@ every-right P (x ∷ a) b h = every-right P a b (h .1)
 pub every-parts : {A : Type 0} (P : A → Type 0) (a b c : List A) → Every P (a ++ (b ++ c)) → Every P a × Every P c
 every-parts P [] b c h = (tt, every-right P b c h)
 every-parts P (x ∷ a) b c h = let r = every-parts P a b c (h .1) in ((h .0, r .0), r .1)
+
+-- what holds of each number of a list holds of one that is among them
+pub among-each : (P : ℕ → Type 0) (l : List ℕ) (n : ℕ) → Every P l → among l n ≡ true → P n
+among-each P [] n h e = absurd (true≢false (sym e))
+among-each P (c ∷ l) n h e = go (eqb n c) refl (among-each P l n (h .1)) e
+  where
+    go : (t : Bool) → eqb n c ≡ t → (among l n ≡ true → P n) → (t || among l n) ≡ true → P n
+    go true q rest e = rw (eqb-true n c q) (h .0)
+    go false q rest e = rest e

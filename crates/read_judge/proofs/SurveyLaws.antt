@@ -29,7 +29,7 @@ use Rattle.read_judge.specs.declared.judging.Surveyed.the-variants.{Is, 
 use Rattle.read_judge.specs.declared.judging.Size.the-variants as size
 use Rattle.read_judge.specs.Judge.{score-of-token, got, unfolded, numbers-of, stuck, middle-reasons, attributes-reasons}
 use Rattle.read_judge.specs.Judge.{field-reasons, unfold-reasons}
-use Rattle.read_judge.specs.Survey.{survey-of, surveyed}
+use Rattle.read_judge.specs.Survey.{surveyed}
 use Rattle.read_judge.specs.Inner.Fields.{middle-of, survey-fields}
 use Rattle.read_judge.specs.Inner.Size.{texts-length, sized}
 use Rattle.read_judge.proofs.AttributesLaws.{attributes-few}

@@ -2,26 +2,25 @@
 -- Assumes nothing.
 use Prim.Native.Nat.{ℕ, zero, suc, _+_, _-_, _^_, _≤_, _<_}
 use native.Mathlib.Omega.{arith}
-use borrow.Author.Tests.{le-leb, lt-leb, eqb-true}
-use mathlib.Core.Path.{_≡_, refl, sym, ap, _∙_}
+use borrow.Author.Tests.{le-leb, lt-leb, lt-ltb}
+use mathlib.Core.Path.{_≡_, refl, sym, _∙_}
 use mathlib.Core.Logic.{⊎-elim}
-use mathlib.Core.Bool.{Bool, true, false, cond, not, _||_, true≢false}
+use mathlib.Core.Bool.{Bool, true, false, cond, not}
 use mathlib.Core.List.{List, [], _∷_, sum}
-use lib.Dec.{eqb, leb}
-use lib.ListN.{length, getD, set, length-set}
+use lib.Dec.{eqb, ltb, leb}
+use lib.ListN.{length, getD, length-set}
 use lib.Pow.{pow-mono}
 use Rattle.base_lists.specs.Bit.{bit}
 use Rattle.base_lists.specs.Bytes.{among}
+use Rattle.base_lists.proofs.EveryLaws.{among-each}
 use Rattle.base_lists.proofs.OrderLaws.{le-or-lt}
 use Rattle.read_verdict.specs.declared.Verdict.{Verdict}
 use Rattle.read_verdict.specs.declared.Verdict.the-variants.{Directive, Comment, Record, Refused}
 use Rattle.read_verdict.specs.Verdict.{refusals, Sound}
-use Rattle.read_verdict.proofs.VerdictLaws.{among-each}
 use Rattle.read_report.specs.declared.totals.Totals.{Totals}
 use Rattle.read_report.specs.declared.totals.Report.{Report}
 use Rattle.read_report.specs.Report.{above, power-to, power, length-of, raised, add-totals, add-length, add}
-use Rattle.read_report.specs.Sums.{total, all-lines}
-use Rattle.read_report.specs.Inner.Room.{Balanced}
+use Rattle.read_report.specs.Sums.{total, all-lines, Balanced}
 
 -- ── the power of two ──────────────────────────────────────────────────────────────────────────
 
@@ -66,28 +65,18 @@ total-raised (x ∷ l) (suc k) h = omega (arith, total-raised l k (omega arith))
 
 -- ── a length more ─────────────────────────────────────────────────────────────────────────────
 
--- a line with a length raises its power
-pub lengths-raised : (l : List ℕ) (v : Verdict) → 0 < length-of v → add-length l v ≡ raised (power (length-of v)) l
-lengths-raised l Directive h = absurd (omega arith)
-lengths-raised l Comment h = absurd (omega arith)
-lengths-raised l (Refused k) h = absurd (omega arith)
-lengths-raised l (Record n) h = go (above n) h
+-- a line with a length raises its power, and any other leaves them
+pub lengths-by : (l : List ℕ) (v : Verdict) → add-length l v ≡ cond (ltb 0 (length-of v)) (raised (power (length-of v)) l) l
+lengths-by l Directive = refl
+lengths-by l Comment = refl
+lengths-by l (Refused k) = refl
+lengths-by l (Record n) = go (above n)
   where
-    go : (t : Bool) → 0 < cond t 0 (n .end - n .start + 1)
-        → cond (not t) (raised (power (cond t 0 (n .end - n .start + 1))) l) l ≡ raised (power (cond t 0 (n .end - n .start + 1))) l
-    go true h = absurd (omega arith)
-    go false h = refl
-
--- and any other leaves them
-pub lengths-stay : (l : List ℕ) (v : Verdict) → length-of v ≤ 0 → add-length l v ≡ l
-lengths-stay l Directive h = refl
-lengths-stay l Comment h = refl
-lengths-stay l (Refused k) h = refl
-lengths-stay l (Record n) h = go (above n) h
-  where
-    go : (t : Bool) → cond t 0 (n .end - n .start + 1) ≤ 0 → cond (not t) (raised (power (cond t 0 (n .end - n .start + 1))) l) l ≡ l
-    go true h = refl
-    go false h = absurd (omega arith)
+    go : (t : Bool)
+        → let length = cond t 0 (n .end - n .start + 1) in
+        cond (not t) (raised (power length) l) l ≡ cond (ltb 0 length) (raised (power length) l) l
+    go true = refl
+    go false = rw (lt-ltb 0 (n .end - n .start + 1) (omega arith))
 
 -- ── a line more ───────────────────────────────────────────────────────────────────────────────
 

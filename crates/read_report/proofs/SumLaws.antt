@@ -4,8 +4,7 @@ use native.Mathlib.Omega.{arith}
 use borrow.Author.Tests.{lt-ltb, le-ltb}
 use mathlib.Core.Path.{_≡_, refl, ap}
 use mathlib.Core.List.{List, [], _∷_, map, sum}
-use lib.ListN.{length, replicate}
-use Rattle.base_lists.specs.Bit.{bit}
+use lib.ListN.{length}
 use Rattle.read_numbers.specs.Number.{most64}
 use Rattle.base_scan.specs.declared.place.Place.{Place}
 use Rattle.base_scan.specs.Part.{text-at}
@@ -19,8 +18,7 @@ use Rattle.read_verdict.specs.Verdict.{verdict}
 use Rattle.read_verdict.proofs.VerdictLaws.{sound}
 use Rattle.read_report.specs.declared.totals.Report.{Report}
 use Rattle.read_report.specs.Report.{length-of, nothing, add, counted, morning}
-use Rattle.read_report.specs.Sums.{total, all-lines, lengths-of, AddsUp}
-use Rattle.read_report.specs.Inner.Room.{Balanced}
+use Rattle.read_report.specs.Sums.{total, all-lines, lengths-of, Balanced, AddsUp}
 use Rattle.read_report.proofs.AddLaws.{all-lines-add, balanced-add}
 
 -- ── lines in a row ────────────────────────────────────────────────────────────────────────────
@@ -47,12 +45,10 @@ nothing-balanced = record { sixty-four = refl; lengths = refl }
 
 pub adds-up : (s : List ℕ) → AddsUp s (counted nothing (lines s))
 adds-up s =
-    let b = balanced-counted nothing (lines s) nothing-balanced in
     let n = all-lines-counted nothing (lines s) in
     record {
       handed-out = omega (arith, n);
-      sixty-four = b .sixty-four;
-      lengths = b .lengths;
+      balanced = balanced-counted nothing (lines s) nothing-balanced;
       exact = omega (arith, sum-counted nothing (lines s));
       few = omega (arith, n, lines-few s);
     }

@@ -122,10 +122,11 @@ add-totals t v =
 abbrev pub raised : ℕ → List ℕ → List ℕ
 raised k l = set l k (getD l k 0 + 1)
 
--- and in the sixty-four
+-- one line more, in the sixty-four
 abbrev pub add-length : List ℕ → Verdict → List ℕ
 add-length l v = cond (is-forward v) (raised (power (length-of v)) l) l
 
+-- one line more
 abbrev pub add : Report → Verdict → Report
 add r v = record { lengths = add-length (r .lengths) v; totals = add-totals (r .totals) v }
 

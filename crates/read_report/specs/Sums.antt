@@ -23,13 +23,16 @@ all-lines t =
 abbrev pub lengths-of : List ℕ → ℕ
 lengths-of s = total (map (λ line. length-of (verdict line)) (lines s))
 
+-- "the sixty-four and the reversed add up to the records"
+pub record Balanced (r : Report) : Type 0 where
+  pub sixty-four : length (r .lengths) ≡ 64
+  pub lengths : total (r .lengths) + r .totals .reversed ≡ r .totals .records
+
 -- of a text's lines, counted
 pub record AddsUp (s : List ℕ) (r : Report) : Type 0 where
   -- "add up to the number of lines handed out, counted from the text itself"
   pub handed-out : all-lines (r .totals) ≡ length (lines s)
-  -- "the sixty-four and the reversed add up to the records"
-  pub sixty-four : length (r .lengths) ≡ 64
-  pub lengths : total (r .lengths) + r .totals .reversed ≡ r .totals .records
+  pub balanced : Balanced r
   -- "the exact sum of lengths"
   pub exact : r .totals .sum ≡ lengths-of s
   -- no count can wrap: there are no more lines than bytes

@@ -21,7 +21,7 @@ pub struct Totals {
     pub refused_attribute: u64,
 }
 
-// The totals go from line to line by themselves: to copy the sixty-four for each line would cost a good part of reading it.
+// The totals are a struct of their own: they go from line to line by value, and the sixty-four are not to be copied for each line.
 pub struct Report {
     // How many lengths lie in each power of two: `lengths[i]` counts those from 2^i on, before 2^(i + 1).
     pub lengths: [u64; 64],

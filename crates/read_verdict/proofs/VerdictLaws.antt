@@ -1,15 +1,12 @@
 -- What a verdict says: the numbers of a record are positions, and a refusal is one of seven. Assumes nothing.
 use Prim.Native.Nat.{ℕ}
 use native.Mathlib.Omega.{arith}
-use mathlib.Core.Path.{_≡_, refl, sym, ap, _∙_}
-use mathlib.Core.Logic.{_⊎_, inl, inr, ⊎-elim}
-use mathlib.Core.Bool.{Bool, true, false, cond, _||_, true≢false}
-use mathlib.Core.List.{List, [], _∷_}
-use lib.Dec.{eqb}
-use borrow.Author.Tests.{eqb-true}
-use Rattle.base_lists.specs.Bytes.{Every, among}
-use Rattle.base_buffer.specs.Answer.{Reason, refusal-of}
-use Rattle.base_buffer.proofs.AnswerLaws.{none-of, unless-is, unless-not}
+use mathlib.Core.Path.{_≡_, refl, _∙_}
+use mathlib.Core.Logic.{⊎-elim}
+use mathlib.Core.Bool.{true, false, true≢false}
+use mathlib.Core.List.{List}
+use Rattle.base_buffer.specs.Answer.{refusal-of}
+use Rattle.base_buffer.proofs.AnswerLaws.{first-among, none-of, unless-is, unless-not}
 use Rattle.read_numbers.specs.declared.read.Number.{Number}
 use Rattle.read_numbers.specs.declared.read.Number.the-variants as number
 use Rattle.read_numbers.specs.Number.{position}
@@ -20,7 +17,6 @@ use Rattle.read_columns.specs.Columns.{column-text}
 use Rattle.read_kind.specs.declared.kind.Kind.{Kind}
 use Rattle.read_kind.specs.declared.kind.Kind.the-variants as kinds
 use Rattle.read_kind.specs.Kind.{kind}
-use Rattle.read_judge.specs.declared.judging.Numbers.{Numbers}
 use Rattle.read_judge.specs.declared.judging.Judged.{Judged}
 use Rattle.read_judge.specs.declared.judging.Judged.the-variants as judge
 use Rattle.read_judge.specs.declared.judging.NumbersRead.{NumbersRead}
@@ -40,28 +36,6 @@ read-position s e = go (position s) refl e
     go : (n : Number) → position s ≡ n → no-position (position-by n) ≡ false → Position (position-in (position-by n))
     go (number.Value n) h e = numeral-bounds s h
     go number.Invalid h e = absurd (true≢false e)
-
--- ── refusals ──────────────────────────────────────────────────────────────────────────────────
-
--- the first reason that holds has one of their numbers
-first-among : (numbers : List ℕ) (xs : List Reason) → Every (λ x. among numbers (x .number) ≡ true) xs
-    → (refusal-of xs ≡ 0) ⊎ (among numbers (refusal-of xs) ≡ true)
-first-among numbers [] h = inl refl
-first-among numbers (x ∷ xs) h = go (x .holds) (first-among numbers xs (h .1))
-  where
-    go : (t : Bool) → (refusal-of xs ≡ 0) ⊎ (among numbers (refusal-of xs) ≡ true)
-        → (cond t (x .number) (refusal-of xs) ≡ 0) ⊎ (among numbers (cond t (x .number) (refusal-of xs)) ≡ true)
-    go true rest = inr (h .0)
-    go false rest = rest
-
--- what holds of each number of a list holds of one that is among them
-pub among-each : (P : ℕ → Type 0) (l : List ℕ) (n : ℕ) → Every P l → among l n ≡ true → P n
-among-each P [] n h e = absurd (true≢false (sym e))
-among-each P (c ∷ l) n h e = go (eqb n c) refl (among-each P l n (h .1)) e
-  where
-    go : (t : Bool) → eqb n c ≡ t → (among l n ≡ true → P n) → (t || among l n) ≡ true → P n
-    go true q rest e = rw (eqb-true n c q) (h .0)
-    go false q rest e = rest e
 
 -- ── a line ────────────────────────────────────────────────────────────────────────────────────
 

@@ -1,19 +1,11 @@
--- What holds of a report while lines are counted. Assumes nothing: these are definitions.
+-- What holds of the totals while lines are counted. Assumes nothing: these are definitions.
 use Prim.Native.Nat.{_+_, _≤_, _<_}
-use mathlib.Core.Path.{_≡_}
-use lib.ListN.{length}
 use Rattle.read_numbers.specs.Number.{most64}
 use Rattle.read_verdict.specs.declared.Verdict.{Verdict}
 use Rattle.read_verdict.specs.Verdict.{Sound}
-use Rattle.read_report.specs.declared.totals.Report.{Report}
 use Rattle.read_report.specs.declared.totals.Totals.{Totals}
 use Rattle.read_report.specs.Report.{length-of}
-use Rattle.read_report.specs.Sums.{total, all-lines}
-
--- the sixty-four and the reversed add up to the records
-pub record Balanced (r : Report) : Type 0 where
-  pub sixty-four : length (r .lengths) ≡ 64
-  pub lengths : total (r .lengths) + r .totals .reversed ≡ r .totals .records
+use Rattle.read_report.specs.Sums.{all-lines}
 
 -- no total passes 64 bits with this line more
 pub record Room (t : Totals) (v : Verdict) : Type 0 where

@@ -3,7 +3,6 @@
 use native.Mathlib.Omega.{arith}
 use borrow.Author.Needs.{needs}
 use borrow.Author.Tests.{lt-ltb, le-ltb}
-use mathlib.Core.Path.{_≡_}
 use Rattle.read_verdict.specs.declared.Verdict.the-variants.{Record}
 use Rattle.read_verdict.specs.Verdict.{Sound}
 use Rattle.read_report.proofs.add.length_of.Statement.{statement}

@@ -1,8 +1,8 @@
 -- `power_of`: 63 less the leading zeros. Assumes nothing.
-use Prim.Native.Nat.{ℕ, _+_, _-_, _^_, _≤_, _<_}
+use Prim.Native.Nat.{ℕ, _+_, _-_, _^_, _<_}
 use native.Mathlib.Omega.{arith}
 use borrow.Author.Needs.{needs}
-use mathlib.Core.Path.{_≡_, sym, _∙_}
+use mathlib.Core.Path.{_≡_}
 use lib.Count.{leadingZeros, leading-top}
 use Rattle.read_report.specs.Report.{power}
 use Rattle.read_report.proofs.AddLaws.{power-is}

@@ -1,7 +1,8 @@
 -- `report_of`: each turn counts the line that a step hands out. Assumes nothing.
-use Prim.Native.Nat.{ℕ, _+_, _-_, _≤_, _<_}
+use Prim.Native.Nat.{ℕ, _-_, _<_}
 use native.Mathlib.Omega.{arith}
 use borrow.Author.Needs.{needs}
+use borrow.Author.Tests.{lt-ltb, le-ltb}
 use mathlib.Core.Path.{_≡_, sym, ap, ap₂, _∙_, subst}
 use mathlib.Core.Logic.{⊎-elim}
 use mathlib.Core.List.{List}
@@ -12,8 +13,8 @@ use Rattle.read_verdict.specs.Verdict.{verdict, Sound}
 use Rattle.read_verdict.proofs.VerdictLaws.{sound}
 use Rattle.read_report.specs.declared.totals.Totals.{Totals}
 use Rattle.read_report.specs.declared.totals.Report.{Report}
-use Rattle.read_report.specs.Report.{add-length}
-use Rattle.read_report.proofs.AddLaws.{one-of, lengths-raised, lengths-stay}
+use Rattle.read_report.specs.Report.{length-of, add-length}
+use Rattle.read_report.proofs.AddLaws.{one-of, lengths-by}
 use Rattle.read_report.proofs.SumLaws.{Halfway, begins, goes-on, passes, ends}
 use Rattle.read_report.proofs.morning.report_of.Statement.{statement}
 use Rattle.read_report.proofs.morning.report_of.Tie as tie
@@ -67,11 +68,11 @@ raised-by : (c : tie.Joined2 Inv-loop μ-loop)
 raised-by c =
     let l = c .before .before .before in
     let v = l .before in
-    ⊎-elim
-    (λ w. w .2
-    ∙ rw (w .1 .ensures .0, l .length-of .ensures)
-    (sym (lengths-raised (turn v .loop .lengths) (v .verdict-of .result) (omega (arith, w .0 .taken, l .length-of .ensures)))))
-    (λ w. w .1 ∙ sym (lengths-stay (turn v .loop .lengths) (v .verdict-of .result) (omega (arith, w .0 .left, l .length-of .ensures))))
+    let by = lengths-by (turn v .loop .lengths) (v .verdict-of .result) in
+    let is = l .length-of .ensures in
+    let n = length-of (v .verdict-of .result) in
+    ⊎-elim (λ w. w .2 ∙ rw (w .1 .ensures .0, is) (sym (rw (lt-ltb 0 n (omega (arith, w .0 .taken, is))) at by)))
+    (λ w. w .1 ∙ sym (rw (le-ltb 0 n (omega (arith, w .0 .left, is))) at by))
     (c .if2 .came)
 
 -- ── the needs ─────────────────────────────────────────────────────────────────────────────────
