@@ -2,13 +2,14 @@
 //!
 //!     bench FILE [ROUNDS]
 //!
-//! Seven passes over an annotation: splitting its lines; splitting them while the text comes in parts of 65,536 bytes; finding the
+//! Nine passes over an annotation: splitting its lines; splitting them while the text comes in parts of 65,536 bytes; finding the
 //! columns of each record line; reading start, end, strand and phase of each, its columns found anew; walking each column 9 to its
-//! end; writing each record again, by unfolding and writing here, and by the Rust's record and its writer; and the report of the whole
-//! text, where the Rust reads each line's kind, each record's start and end, and walks its column 9. Lines and columns are cut before
-//! the pass that needs them. Parts are read into a buffer, as they would be from a file, on both sides. The two take turns,
-//! each time is the least of all rounds, and both must come to the same counts and sums; what they write is compared byte by byte
-//! before the passes. No buffer is cleared or filled from line to line, but for the Rust's vectors, which are emptied before each.
+//! end; writing each record again, by unfolding and writing here, and by the Rust's record and its writer; the report of the whole
+//! text, where the Rust reads each line's kind, each record's start and end, and walks its column 9; and decoding texts of escapes
+//! alone, and texts without any, each to a text of its own. Lines, columns and texts are made before the pass that needs them.
+//! Parts are read into a buffer, as they would be from a file, on both sides. The two take turns, each time is the least of all
+//! rounds, and both must come to the same counts and sums; what they write is compared byte by byte before the passes. No buffer is
+//! cleared or filled from line to line, but for the Rust's vectors, which are emptied before each.
 
 #[path = "../src/ours.rs"]
 #[expect(dead_code, reason = "the passes call some of the functions")]
@@ -44,6 +45,8 @@ fn main() -> ExitCode {
         .iter()
         .filter_map(|line| Some(record::columns(line)?[8]))
         .collect();
+    let decodable = [escapes(&text), plain(&text)];
+    let [escapes, plain] = decodable.each_ref().map(|text| text.chunks(PIECE).collect::<Vec<_>>());
     println!(
         "{} bytes, {} record lines, the least of {rounds} rounds",
         text.len(),
@@ -62,10 +65,12 @@ fn main() -> ExitCode {
         pass("attributes", rounds, || walk(&columns), || rust::attributes(&columns)),
         pass("writing", rounds, || rewrite(&lines), || rust::records(&lines)),
         pass("report", rounds, || report(&text), || rust::report(&text)),
+        pass("escapes", rounds, || decode(&escapes), || rust::decoded(&escapes)),
+        pass("no escapes", rounds, || decode(&plain), || rust::decoded(&plain)),
     ];
 
     println!("{:<12} {:>10} {:>10} {:>10}", "pass", "ours", "Rust", "ours/Rust");
-    let mut all = Pass::named("all seven");
+    let mut all = Pass::named("all nine");
 
     for pass in passes {
         let pass = match pass {
@@ -357,4 +362,40 @@ fn rewrite(lines: &[&[u8]]) -> Sum {
 fn report(text: &[u8]) -> Sum {
     let report = ours::report(text);
     (report.records + report.directives + report.comments, report.sum)
+}
+
+/// How many bytes of the annotation are made into texts to decode, and the length of each text: a whole number of escapes.
+const DECODED: usize = 1 << 20;
+const PIECE: usize = 3 * 1_024;
+
+/// The first bytes of a text as escapes, every other one with small digits.
+fn escapes(text: &[u8]) -> Vec<u8> {
+    let digits = [b"0123456789ABCDEF", b"0123456789abcdef"];
+    let mut escapes = Vec::with_capacity(3 * DECODED);
+
+    for (byte, digits) in text.iter().take(DECODED).zip(digits.iter().cycle()) {
+        escapes.extend([b'%', digits[usize::from(byte / 16)], digits[usize::from(byte % 16)]]);
+    }
+
+    escapes
+}
+
+/// The first bytes of a text without its percent signs.
+fn plain(text: &[u8]) -> Vec<u8> {
+    let first = text.iter().take(DECODED);
+    first.copied().filter(|&byte| byte != b'%').collect()
+}
+
+#[inline(never)]
+fn decode(texts: &[&[u8]]) -> Sum {
+    let mut out = vec![0; PIECE];
+    let (mut count, mut sum) = (0, 0);
+
+    for text in texts {
+        let length = ours::decode(text, &mut out).length;
+        count += length as u64;
+        sum += out[..length].last().map_or(0, |&byte| u64::from(byte));
+    }
+
+    (count, sum)
 }

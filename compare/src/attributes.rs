@@ -29,15 +29,6 @@ pub fn every(report: &mut Report, len: usize) {
         texts::every(b"a,%", len, |value| whole_value(report, value));
     }
 
-    // The lookup decodes by itself: every pair of bytes behind a percent sign in a tag.
-    if len == 2 {
-        texts::every(&BYTES, len, |pair| {
-            let column = [b"%", pair, b"=1"].concat();
-            lookup(report, &column, &rust::parse_tag(&column[..3]));
-            lookup(report, &column, &column[..3]);
-        });
-    }
-
     if len <= 2 {
         texts::every(&BYTES, len, |column| {
             report.check(Call::NoAttributes, Case::of(column), no_attributes);
@@ -46,8 +37,15 @@ pub fn every(report: &mut Report, len: usize) {
     }
 }
 
-/// Tags and values of each length, from each cursor.
+/// Every pair of bytes behind a percent sign in a tag, since the lookup decodes by itself; and tags and values of each length, from each
+/// cursor.
 pub fn sweep(report: &mut Report) {
+    texts::every(&BYTES, 2, |pair| {
+        let column = [b"%", pair, b"=1"].concat();
+        lookup(report, &column, &rust::parse_tag(&column[..3]));
+        lookup(report, &column, &column[..3]);
+    });
+
     for tag in (0..=34).chain(46..=50) {
         for value in (0..=18).chain(30..=34) {
             let tag = vec![b't'; tag];

@@ -35,7 +35,6 @@ pub fn every(report: &mut Report, len: usize) {
 
     if len <= 2 {
         texts::every(&BYTES, len, |text| {
-            decoded(report, &[b"%", text].concat());
             report.check(Call::Position, Case::of(text), position);
 
             for number in 1..=3 {
@@ -45,8 +44,13 @@ pub fn every(report: &mut Report, len: usize) {
     }
 }
 
-/// An escape, whole or cut, at each place of texts of each length; and the longest text that is encoded, and one longer.
+/// Every pair of bytes behind a percent sign, every single one, and none; an escape, whole or cut, at each place of texts of each
+/// length; and the longest text that is encoded, and one longer.
 pub fn sweep(report: &mut Report) {
+    for len in 0..=2 {
+        texts::every(&BYTES, len, |text| decoded(report, &[b"%", text].concat()));
+    }
+
     for len in 0..=70 {
         let text = vec![b'a'; len];
         encoded(report, &text);

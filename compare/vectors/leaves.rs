@@ -125,7 +125,8 @@ fn shown(number: Option<u64>) -> String {
     number.map_or("! ".into(), |n| format!("{n} "))
 }
 
-/// The samples of RULES 14, RFC 3986's examples (sections 2.1, 2.4, 2.5 and 6.2.2.1) and mixtures.
+/// The samples of RULES 14, RFC 3986's examples (sections 2.1, 2.4, 2.5 and 6.2.2.1); the bytes at the ends of the ranges of hex digits and
+/// those beyond, as either digit; and mixtures.
 pub fn decoding(list: &mut List) {
     list.title("d TEXT ROOM: decoding");
     let mut dice = Dice::new(3);
@@ -146,6 +147,16 @@ pub fn decoding(list: &mut List) {
         assert_eq!(coding::percent_decode(text), decoded);
         for room in [decoded.len() - 1, decoded.len(), decoded.len() + 2] {
             list.case(&format!("d {} {room}", hex(text)), &written(decoded, room));
+        }
+    }
+
+    for &byte in b"/09:@AFG`afg" {
+        for text in [[b'%', byte, b'1'], [b'%', b'1', byte]] {
+            let decoded = coding::percent_decode(&text);
+            list.case(
+                &format!("d {} {}", hex(&text), decoded.len()),
+                &written(&decoded, decoded.len()),
+            );
         }
     }
 

@@ -6,12 +6,12 @@ use mathlib.Core.Logic.{_⊎_, inl, inr}
 use mathlib.Core.Bool.{Bool, true, false, cond, _&&_, and-false}
 use mathlib.Core.List.{List, [], _∷_, _++_}
 use Prim.Native.Nat.{ℕ, suc, _+_, _-_, _*_, _≤_, _<_}
-use lib.Dec.{leb}
 use lib.ListN.{length, drop, getD, drop-of-length-le}
 use lib.Seq.{drop-cons}
-use borrow.Author.Tests.{leb-true, le-leb, lt-leb}
+use borrow.Author.Tests.{le-leb, lt-leb}
 use Rattle.base_lists.specs.Bytes.{Every, between}
-use Rattle.base_lists.proofs.BoolLaws.{and-left, and-right}
+use Rattle.base_lists.proofs.BoolLaws.{and-right}
+use Rattle.base_lists.proofs.OrderLaws.{low-end, high-end}
 use Rattle.read_numbers.specs.declared.read.Number.{Number}
 use Rattle.read_numbers.specs.declared.read.Number.the-variants.{Value, Invalid}
 use Rattle.read_numbers.specs.Number.{is-digit, all-digits, some-digits, digits-value-after, digits-value, numeral}
@@ -42,8 +42,8 @@ numeral-bounds {low} {high} {v} s e = go (some-digits s && between low high (dig
     go true p q =
         let same : digits-value s ≡ v = cc in
         let both = and-right (some-digits s) (between low high (digits-value s)) p in (
-          omega (arith, leb-true low (digits-value s) (and-left _ _ both)),
-          omega (arith, leb-true (digits-value s) high (and-right (leb low (digits-value s)) _ both)),
+          omega (arith, low-end low high (digits-value s) both),
+          omega (arith, high-end low high (digits-value s) both),
         )
     go false p q = let z : _≡_ {A = ℕ} 0 1 = cc in absurd (omega arith)
 

@@ -185,6 +185,21 @@ pub fn rewrite(mut text: &[u8]) -> (u64, u64) {
     (count, sum)
 }
 
+/// The bytes of texts when decoded, and the sum of the last byte of each. Calls `percent_decode` of record.rs on each text, which hands
+/// back the text itself where it has no escape; so that both sides make a text of their own, it is copied then.
+#[inline(never)]
+pub fn decoded(texts: &[&[u8]]) -> (u64, u64) {
+    let (mut count, mut sum) = (0, 0);
+
+    for text in texts {
+        let decoded = Door::percent_decode(text).into_owned();
+        count += decoded.len() as u64;
+        sum += decoded.last().map_or(0, |&byte| u64::from(byte));
+    }
+
+    (count, sum)
+}
+
 #[inline]
 fn take_line(reader: &mut impl BufRead, buf: &mut Vec<u8>) -> bool {
     buf.clear();
