@@ -7,6 +7,7 @@ use mathlib.Core.Bool.{Bool, true, false, cond, _&&_}
 use lib.Dec.{eqb, ltb}
 use borrow.Author.Needs.{needs}
 use borrow.Author.Tests.{eqb-true}
+use Rattle.base_lists.specs.Bytes.{between}
 use Rattle.base_lists.proofs.BoolLaws.{and-left, and-right, agree, agree-eq}
 use Rattle.base_lists.proofs.OrderLaws.{low-end, high-end}
 use Rattle.base_lists.proofs.TableLaws.{below, below-holds}
@@ -31,8 +32,9 @@ ranged low high first passes {x} {r} l h e =
       value = eqb-true r _ (and-right (agree (ltb r 16) (is-hex x)) _ t);
     }
 
-other : {x : ℕ} → is-hex x ≡ false → Hex x 16
-other t = record { digit = rw t; value = rw t }
+other : {x : ℕ} → between 48 57 x ≡ false → between 65 70 x ≡ false → between 97 102 x ≡ false → Hex x 16
+unfolding is-hex
+other t u v = record { digit = rw (t, u, v); value = rw (t, u, v) }
 
 returns : tie.Need-returns
 unfolding is-hex hex-value
@@ -47,7 +49,7 @@ returns-2 c =
     rw (p .1)
     (⊎-elim
     (λ q. rw (q .1) (ranged 48 57 0 refl (omega (arith, low-end)) (omega (arith, high-end)) (omega (arith, low-end))))
-    (λ q. rw (q .1) (other (rw (q .0 .left, p .0 .left, c .if3 .left))))
+    (λ q. rw (q .1) (other (q .0 .left) (p .0 .left) (c .if3 .left)))
     (c .before .before .if1 .came)))
     (c .before .if2 .came)
 
