@@ -159,6 +159,43 @@ static void columns(void)
     HOLD(room.refused == GFF3_REFUSED_ROOM && room.length == 4);
 }
 
+#define COLUMNS(start, end, score, strand, phase, column) "s\t.\tg\t" start "\t" end "\t" score "\t" strand "\t" phase "\t" column
+
+/* Whether a record is refused by a number, and every other field is 0. The struct has no gaps. */
+static int is_refused(gff3_record_fields record, uint64_t number)
+{
+    gff3_record_fields refused;
+
+    memset(&refused, 0, sizeof refused);
+    refused.refused = number;
+    return memcmp(&record, &refused, sizeof refused) == 0;
+}
+
+static void whole_records(void)
+{
+    const gff3_record_fields record = gff3_record(TEXT(RECORD));
+    const gff3_bounds bounds = record.bounds;
+    HOLD(record.refused == 0 && record.start == 8 && record.end == 13);
+    HOLD(record.score_missing == 0 && record.score_start == 20 && record.score_end == 24);
+    HOLD(record.strand == GFF3_STRAND_REVERSE && record.phase == 2);
+    HOLD(bounds.reference_sequence_name_end == 7 && bounds.source_end == 11 && bounds.type_end == 15 && bounds.start_end == 17);
+    HOLD(bounds.end_end == 20 && bounds.score_end == 25 && bounds.strand_end == 27 && bounds.phase_end == 29);
+
+    const gff3_record_fields dots = gff3_record(TEXT(COLUMNS("9", "8", ".", ".", ".", "")));
+    HOLD(dots.refused == 0 && dots.start == 9 && dots.end == 8 && dots.bounds.phase_end == 16);
+    HOLD(dots.score_missing == 1 && dots.score_start == 0 && dots.score_end == 0);
+    HOLD(dots.strand == GFF3_STRAND_NONE && dots.phase == GFF3_PHASE_NONE);
+
+    HOLD(is_refused(gff3_record(NULL, 0), GFF3_REFUSED_COLUMNS));
+    HOLD(is_refused(gff3_record(TEXT("s\t.\tg\t0\t0\tx\tx\tx")), GFF3_REFUSED_COLUMNS));
+    HOLD(is_refused(gff3_record(TEXT(COLUMNS("0", "8", "x", "x", "x", "a"))), GFF3_REFUSED_POSITION));
+    HOLD(is_refused(gff3_record(TEXT(COLUMNS("8", "0", "x", "x", "x", "a"))), GFF3_REFUSED_POSITION));
+    HOLD(is_refused(gff3_record(TEXT(COLUMNS("8", "8", "x", "x", "x", "a"))), GFF3_REFUSED_SCORE));
+    HOLD(is_refused(gff3_record(TEXT(COLUMNS("8", "8", "1", "x", "x", "a"))), GFF3_REFUSED_STRAND));
+    HOLD(is_refused(gff3_record(TEXT(COLUMNS("8", "8", "1", "?", "x", "a"))), GFF3_REFUSED_PHASE));
+    HOLD(gff3_record(TEXT(COLUMNS("8", "8", "1", "?", "0", "a"))).refused == 0);
+}
+
 static void attributes(void)
 {
     const gff3_field field = gff3_next_field(TEXT("a=1;b=2"), 0);
@@ -249,7 +286,7 @@ static void records(void)
     HOLD(gff3_write_comment(TEXT("a\n"), out, sizeof out).refused == GFF3_REFUSED_TEXT);
 }
 
-#define LINE(start, end, score, strand, phase, column) "s\t.\tg\t" start "\t" end "\t" score "\t" strand "\t" phase "\t" column "\n"
+#define LINE(start, end, score, strand, phase, column) COLUMNS(start, end, score, strand, phase, column) "\n"
 #define MOST "18446744073709551615"
 
 /* Lines by hand: two directives, a comment, a blank line, five records, of which one is reversed, and each refusal but 24. */
@@ -297,6 +334,7 @@ int main(void)
     long_lines();
     refused_holds();
     columns();
+    whole_records();
     attributes();
     values();
     typed_values();

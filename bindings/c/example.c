@@ -43,31 +43,22 @@ static uint64_t print_record(const uint8_t *line, size_t len)
     decoded name;
     decoded id;
 
-    const gff3_indexed indexed = gff3_index(line, len);
-    if (indexed.refused != 0) {
-        return indexed.refused;
-    }
-    const gff3_bounds bounds = indexed.bounds;
-    const gff3_number start = gff3_start(line, len, bounds);
-    if (start.refused != 0) {
-        return start.refused;
-    }
-    const gff3_number end = gff3_end(line, len, bounds);
-    if (end.refused != 0) {
-        return end.refused;
+    const gff3_record_fields record = gff3_record(line, len);
+    if (record.refused != 0) {
+        return record.refused;
     }
     const gff3_written written =
-        gff3_text(line, len, bounds, GFF3_COLUMN_REFERENCE_SEQUENCE_NAME, name.bytes, sizeof name.bytes);
+        gff3_text(line, len, record.bounds, GFF3_COLUMN_REFERENCE_SEQUENCE_NAME, name.bytes, sizeof name.bytes);
     if (written.refused != 0) {
         return written.refused;
     }
-    const uint64_t refused = read_id(line, len, bounds, &id);
+    const uint64_t refused = read_id(line, len, record.bounds, &id);
     if (refused != 0) {
         return refused;
     }
 
     fwrite(name.bytes, 1, written.length, stdout);
-    printf(": %" PRIu64 " to %" PRIu64 "%s", start.value, end.value, id.length == 0 ? "" : ", ");
+    printf(": %" PRIu64 " to %" PRIu64 "%s", record.start, record.end, id.length == 0 ? "" : ", ");
     fwrite(id.bytes, 1, id.length, stdout);
     putchar('\n');
     return 0;

@@ -199,6 +199,23 @@ typedef struct {
 
 gff3_indexed gff3_index(const uint8_t *line, size_t line_len);
 
+/* A record in one call, which indexes the line once: its bounds, and columns 4 to 8 as their readers below have them. Where `score_missing`
+ * is 1, `score_start` and `score_end` are 0. Refusals 1, 2 (start, then end), 17, 3, 4. Of a line that is refused by another number than
+ * 1, gff3_index has the bounds, and the readers the columns that are not refused. */
+typedef struct {
+    uint64_t refused;
+    gff3_bounds bounds;
+    uint64_t start;
+    uint64_t end;
+    uint64_t score_missing;  /* 1 where column 6 is a dot */
+    size_t score_start;      /* the place of the score token */
+    size_t score_end;
+    uint32_t strand;         /* GFF3_STRAND_NONE to GFF3_STRAND_UNKNOWN */
+    uint32_t phase;          /* 0 to 2, or GFF3_PHASE_NONE */
+} gff3_record_fields;
+
+gff3_record_fields gff3_record(const uint8_t *line, size_t line_len);
+
 /* The readers below take a line and its bounds, and refuse 1 where they are not the line's own. */
 
 /* The columns by their numbers. */

@@ -1,5 +1,8 @@
 //! The columns of a record, and the readers of its fields.
 
+mod record;
+mod tabs;
+
 use oracle::io::api::record as rust;
 
 use crate::{
@@ -30,14 +33,14 @@ pub fn every(report: &mut Report, len: usize) {
 
     if len <= 7 {
         texts::every(b"01.+-e", len, |token| {
-            report.check(Call::Score, Case::of(&with(6, token)), read_score)
+            field(report, &with(6, token), Call::Score, read_score)
         });
     }
 
     if len <= 6 {
         texts::every(b"019+-a", len, |token| {
-            report.check(Call::Start, Case::of(&with(4, token)), start);
-            report.check(Call::End, Case::of(&with(5, token)), end);
+            field(report, &with(4, token), Call::Start, start);
+            field(report, &with(5, token), Call::End, end);
         });
         texts::every(b"%24gF", len, |token| {
             for column in 1..=3 {
@@ -48,17 +51,20 @@ pub fn every(report: &mut Report, len: usize) {
 
     if len <= 2 {
         texts::every(&BYTES, len, |token| {
-            report.check(Call::Strand, Case::of(&with(7, token)), strand);
-            report.check(Call::Phase, Case::of(&with(8, token)), phase);
-            report.check(Call::Score, Case::of(&with(6, token)), read_score);
-            report.check(Call::Start, Case::of(&with(4, token)), start);
-            report.check(Call::End, Case::of(&with(5, token)), end);
+            field(report, &with(7, token), Call::Strand, strand);
+            field(report, &with(8, token), Call::Phase, phase);
+            field(report, &with(6, token), Call::Score, read_score);
+            field(report, &with(4, token), Call::Start, start);
+            field(report, &with(5, token), Call::End, end);
         });
     }
 }
 
-/// Each column of each length, numbers beside the greatest, and each of the eight ends put wrong.
+/// Tabs at places where the search for them changes its way, each column of each length, numbers beside the greatest, and each of
+/// the eight ends put wrong.
 pub fn sweep(report: &mut Report) {
+    tabs::sweep(report);
+
     for column in 1..=9 {
         for len in 0..=50 {
             whole_line(report, &with(column, &vec![b'1'; len]));
@@ -67,8 +73,8 @@ pub fn sweep(report: &mut Report) {
     }
 
     texts::beside_greatest(|number| {
-        report.check(Call::Start, Case::of(&with(4, number.as_bytes())), start);
-        report.check(Call::End, Case::of(&with(5, number.as_bytes())), end);
+        field(report, &with(4, number.as_bytes()), Call::Start, start);
+        field(report, &with(5, number.as_bytes()), Call::End, end);
     });
 
     for line in [
@@ -125,11 +131,12 @@ pub fn random(report: &mut Report, dice: &mut Dice) {
 
     let len = dice.between(1, 24);
     let token = dice.text(len, b"0123456789012345678901234567890123456789.eE+-");
-    report.check(Call::Score, Case::of(&with(6, &token)), read_score);
+    field(report, &with(6, &token), Call::Score, read_score);
 
     // Bounds of another line, of the line before a damage, and of no line.
     let mut other = line.clone();
     texts::damage(dice, &mut other, MARKS);
+    indexed(report, &other);
 
     if let Some(ends) = rust::bounds(&line) {
         given(report, &other, Given::These(ends));
@@ -156,8 +163,27 @@ fn number(dice: &mut Dice) -> Vec<u8> {
 }
 
 fn whole_line(report: &mut Report, line: &[u8]) {
-    report.check(Call::Index, Case::of(line), index);
+    indexed(report, line);
     given(report, line, Given::Own);
+}
+
+/// The calls that find the bounds themselves.
+fn indexed(report: &mut Report, line: &[u8]) {
+    report.check(Call::Index, Case::of(line), index);
+    report.check(Call::Record, Case::of(line), record::record);
+}
+
+/// The reader of one column, and the record read at once.
+fn field(report: &mut Report, line: &[u8], call: Call, check: Check) {
+    report.check(call, Case::of(line), check);
+    report.check(Call::Record, Case::of(line), record::record);
+}
+
+/// The readers of a line and the bounds that the case gives.
+fn readers(report: &mut Report, case: Case<'_>) {
+    for (call, check) in READERS {
+        report.check(call, case, check);
+    }
 }
 
 /// Every reader on a line and these bounds.
@@ -171,9 +197,7 @@ fn given(report: &mut Report, line: &[u8], bounds: Given) {
         report.check(Call::Column, Case { number, ..case }, column);
     }
 
-    for (call, check) in READERS {
-        report.check(call, case, check);
-    }
+    readers(report, case);
 
     for number in [1, 2, 3, 0, 4, u32::MAX as usize] {
         let all = if number < 4 {
@@ -234,7 +258,7 @@ fn index(desk: &mut Desk, case: Case<'_>) -> Verdict {
         },
     };
 
-    By::Rust.says(same(ours::index(desk.text(case.text)), expected))
+    By::Rust.says(desk.answers(case.text, ours::index, expected))
 }
 
 /// A number that is no column's is refused by 1 (RULES 16.3).
@@ -309,42 +333,48 @@ fn phase(desk: &mut Desk, case: Case<'_>) -> Verdict {
     ))
 }
 
-/// The grammar is that of RULES 4.2; of the Rust's, which is wider, what is missing is compared, and that it holds ours.
+/// That the Rust, whose grammar is wider, accepts what ours does is compared too.
 fn read_score(desk: &mut Desk, case: Case<'_>) -> Verdict {
     let (bounds, own, by) = bounds(case);
     let answer = ours::score(desk.text(case.text), bounds);
-    let refused = |refused| ScoreText {
-        refused,
+
+    let (by, expected) = match rust::columns(case.text).filter(|_| own) {
+        None => (by, Err(1)),
+        Some(columns) => score_of(case.text, columns[5]),
+    };
+
+    let expected = expected.unwrap_or_else(|refused| ScoreText {
+        refused: refused.into(),
         ..ScoreText::default()
-    };
+    });
+    let accepted = answer.refused != 0 || rust::score(case.text).is_ok();
+    by.says(same(answer, expected).and_then(|()| {
+        let what = "accepted by the Rust";
+        same((what, accepted), (what, true))
+    }))
+}
 
-    let Some(columns) = rust::columns(case.text).filter(|_| own) else {
-        return by.says(same(answer, refused(1)));
-    };
-
-    let token = columns[5];
-    let start = token.as_ptr() as usize - case.text.as_ptr() as usize;
-    let read = rust::score(case.text);
-    let accepted = ("accepted by the Rust", answer.refused != 0 || read.is_ok());
-
-    let (by, expected) = if read == Ok(None) {
+/// What this column 6 of a line comes to. The grammar is that of RULES 4.2; the Rust decides what is missing.
+fn score_of(line: &[u8], token: &[u8]) -> (By, Result<ScoreText, u8>) {
+    if rust::score(line) == Ok(None) {
         let missing = ScoreText {
             missing: 1,
             ..ScoreText::default()
         };
-        (By::Rust, missing)
-    } else if score::is_token(token) {
-        let token = ScoreText {
-            start,
-            end: start + token.len(),
-            ..ScoreText::default()
-        };
-        (By::Checker, token)
-    } else {
-        (By::Checker, refused(17))
-    };
+        return (By::Rust, Ok(missing));
+    }
 
-    by.says(same(answer, expected).and_then(|()| same(accepted, ("accepted by the Rust", true))))
+    if !score::is_token(token) {
+        return (By::Checker, Err(17));
+    }
+
+    let start = token.as_ptr() as usize - line.as_ptr() as usize;
+    let place = ScoreText {
+        start,
+        end: start + token.len(),
+        ..ScoreText::default()
+    };
+    (By::Checker, Ok(place))
 }
 
 /// A number that is none of the three columns' is refused by 1 (RULES 16.3).

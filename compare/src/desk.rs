@@ -76,6 +76,17 @@ impl Desk {
         self.texts.lend(text, side)
     }
 
+    /// Compares a call's answers on a text that begins beside a fence, and on the same text where it ends beside one.
+    pub fn answers<A: Copy + Debug + PartialEq>(
+        &mut self,
+        text: &[u8],
+        call: impl Fn(&[u8]) -> A,
+        expected: A,
+    ) -> Compared {
+        let mut sides = [Side::First, Side::Last].into_iter();
+        sides.try_for_each(|side| same(call(self.texts.lend(text, side)), expected))
+    }
+
     pub fn text_and_tag(&mut self, case: Case<'_>) -> (&[u8], &[u8]) {
         let side = self.side();
         (self.texts.lend(case.text, side), self.tags.lend(case.tag, side))

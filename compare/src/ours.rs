@@ -38,6 +38,17 @@ structs! {
     Part { refused: u64, has_line: u64, length: usize, taken: usize, state: State }
     Bounds { ends: [usize; 8] }
     Indexed { refused: u64, bounds: Bounds }
+    RecordFields {
+        refused: u64,
+        bounds: Bounds,
+        start: u64,
+        end: u64,
+        score_missing: u64,
+        score_start: usize,
+        score_end: usize,
+        strand: u32,
+        phase: u32
+    }
     Place { refused: u64, start: usize, end: usize }
     Number { refused: u64, value: u64 }
     ScoreText { refused: u64, missing: u64, start: usize, end: usize }
@@ -97,6 +108,7 @@ unsafe extern "C" {
     fn gff3_take_part(state: State, hold: *mut u8, hold_len: usize, part: *const u8, part_len: usize) -> Part;
     fn gff3_end_parts(state: State, hold: *mut u8, hold_len: usize) -> Part;
     fn gff3_index(line: *const u8, line_len: usize) -> Indexed;
+    fn gff3_record(line: *const u8, line_len: usize) -> RecordFields;
     fn gff3_column(line: *const u8, line_len: usize, bounds: Bounds, column: u32) -> Place;
     fn gff3_start(line: *const u8, line_len: usize, bounds: Bounds) -> Number;
     fn gff3_end(line: *const u8, line_len: usize, bounds: Bounds) -> Number;
@@ -164,6 +176,7 @@ on_texts! {
     comment = gff3_comment(line) -> CommentText;
     directive = gff3_directive(line) -> DirectiveText;
     index = gff3_index(line) -> Indexed;
+    record = gff3_record(line) -> RecordFields;
     column = gff3_column(line, bounds: Bounds, column: u32) -> Place;
     start = gff3_start(line, bounds: Bounds) -> Number;
     end = gff3_end(line, bounds: Bounds) -> Number;

@@ -35,6 +35,7 @@ calls! {
     TakePart = "gff3_take_part",
     EndParts = "gff3_end_parts",
     Index = "gff3_index",
+    Record = "gff3_record",
     Column = "gff3_column",
     Start = "gff3_start",
     End = "gff3_end",

@@ -53,6 +53,19 @@ pub struct Indexed {
 }
 
 #[repr(C)]
+pub struct RecordFields {
+    pub refused: u64,
+    pub bounds: Bounds,
+    pub start: u64,
+    pub end: u64,
+    pub score_missing: u64,
+    pub score_start: usize,
+    pub score_end: usize,
+    pub strand: u32,
+    pub phase: u32,
+}
+
+#[repr(C)]
 pub struct Place {
     pub refused: u64,
     pub start: usize,
@@ -184,6 +197,7 @@ extern "C" {
     pub fn gff3_take_part(state: State, hold: *mut u8, hold_len: usize, part: *const u8, part_len: usize) -> Part;
     pub fn gff3_end_parts(state: State, hold: *mut u8, hold_len: usize) -> Part;
     pub fn gff3_index(line: *const u8, line_len: usize) -> Indexed;
+    pub fn gff3_record(line: *const u8, line_len: usize) -> RecordFields;
     pub fn gff3_column(line: *const u8, line_len: usize, bounds: Bounds, column: u32) -> Place;
     pub fn gff3_start(line: *const u8, line_len: usize, bounds: Bounds) -> Number;
     pub fn gff3_end(line: *const u8, line_len: usize, bounds: Bounds) -> Number;

@@ -33,6 +33,8 @@ pub struct Bounds {
 
 /// A line of nine columns, and where they end.
 ///
+/// Columns 4 to 8 are read when it is made. Where none of them is refused, the methods read none of them again; else each reads its own.
+///
 /// ```
 /// let record = gff3_lines::Record::new(b"sq%200\tlab\tgene\t8\t13\t0.5\t+\t.\tID=a")?;
 ///
@@ -45,6 +47,17 @@ pub struct Bounds {
 pub struct Record<'a> {
     line: &'a [u8],
     bounds: Bounds,
+    read: Option<Read<'a>>,
+}
+
+/// Columns 4 to 8 of a record where none of them is refused.
+#[derive(Clone, Copy, Debug, PartialEq, Eq, Hash)]
+struct Read<'a> {
+    start: u64,
+    end: u64,
+    score: Option<&'a [u8]>,
+    strand: Strand,
+    phase: Option<Phase>,
 }
 
 impl<'a> Record<'a> {
@@ -57,11 +70,33 @@ impl<'a> Record<'a> {
     /// ```
     pub fn new(line: &'a [u8]) -> Result<Self, Refusal> {
         // SAFETY: the line is a slice.
+        let fields = unsafe { ffi::gff3_record(line.as_ptr(), line.len()) };
+        match Refusal::check(fields.refused) {
+            Ok(()) => Ok(Record {
+                line,
+                bounds: fields.bounds,
+                read: Some(Read {
+                    start: fields.start,
+                    end: fields.end,
+                    score: (fields.score_missing == 0).then(|| &line[fields.score_start..fields.score_end]),
+                    strand: Strand::of(fields.strand.into()),
+                    phase: Phase::of(fields.phase.into()),
+                }),
+            }),
+            Err(Refusal::Columns) => Err(Refusal::Columns),
+            Err(_) => Record::indexed(line),
+        }
+    }
+
+    /// The record of a line that has a refused column among 4 to 8: the others can still be asked for.
+    fn indexed(line: &'a [u8]) -> Result<Self, Refusal> {
+        // SAFETY: the line is a slice.
         let indexed = unsafe { ffi::gff3_index(line.as_ptr(), line.len()) };
         Refusal::check(indexed.refused)?;
         Ok(Record {
             line,
             bounds: indexed.bounds,
+            read: None,
         })
     }
 
@@ -77,10 +112,11 @@ impl<'a> Record<'a> {
     /// # Ok::<(), Refusal>(())
     /// ```
     pub fn with_bounds(line: &'a [u8], bounds: Bounds) -> Result<Self, Refusal> {
-        // SAFETY: the line is a slice.
-        let place = unsafe { ffi::gff3_column(line.as_ptr(), line.len(), bounds, 1) };
-        Refusal::check(place.refused)?;
-        Ok(Record { line, bounds })
+        let record = Record::new(line)?;
+        if record.bounds != bounds {
+            return Err(Refusal::Columns);
+        }
+        Ok(record)
     }
 
     /// The line.
@@ -223,6 +259,9 @@ impl<'a> Record<'a> {
     /// # Ok::<(), Refusal>(())
     /// ```
     pub fn start(&self) -> Result<u64, Refusal> {
+        if let Some(read) = self.read {
+            return Ok(read.start);
+        }
         // SAFETY: the line is a slice.
         number(unsafe { ffi::gff3_start(self.line.as_ptr(), self.line.len(), self.bounds) })
     }
@@ -234,6 +273,9 @@ impl<'a> Record<'a> {
     /// # Ok::<(), gff3_lines::Refusal>(())
     /// ```
     pub fn end(&self) -> Result<u64, Refusal> {
+        if let Some(read) = self.read {
+            return Ok(read.end);
+        }
         // SAFETY: the line is a slice.
         number(unsafe { ffi::gff3_end(self.line.as_ptr(), self.line.len(), self.bounds) })
     }
@@ -249,6 +291,9 @@ impl<'a> Record<'a> {
     /// # Ok::<(), Refusal>(())
     /// ```
     pub fn score(&self) -> Result<Option<&'a [u8]>, Refusal> {
+        if let Some(read) = self.read {
+            return Ok(read.score);
+        }
         // SAFETY: the line is a slice.
         let score = unsafe { ffi::gff3_score(self.line.as_ptr(), self.line.len(), self.bounds) };
         Refusal::check(score.refused)?;
@@ -264,6 +309,9 @@ impl<'a> Record<'a> {
     /// # Ok::<(), Refusal>(())
     /// ```
     pub fn strand(&self) -> Result<Strand, Refusal> {
+        if let Some(read) = self.read {
+            return Ok(read.strand);
+        }
         // SAFETY: the line is a slice.
         let strand = unsafe { ffi::gff3_strand(self.line.as_ptr(), self.line.len(), self.bounds) };
         Ok(Strand::of(number(strand)?))
@@ -279,6 +327,9 @@ impl<'a> Record<'a> {
     /// # Ok::<(), Refusal>(())
     /// ```
     pub fn phase(&self) -> Result<Option<Phase>, Refusal> {
+        if let Some(read) = self.read {
+            return Ok(read.phase);
+        }
         // SAFETY: the line is a slice.
         let phase = unsafe { ffi::gff3_phase(self.line.as_ptr(), self.line.len(), self.bounds) };
         Ok(Phase::of(number(phase)?))

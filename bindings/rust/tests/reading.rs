@@ -150,6 +150,143 @@ fn every_strand_and_phase_is_read() {
     }
 }
 
+/// Columns 4 to 8, each read or refused.
+type Middle<'a> = (
+    Result<u64, Refusal>,
+    Result<u64, Refusal>,
+    Result<Option<&'a [u8]>, Refusal>,
+    Result<Strand, Refusal>,
+    Result<Option<Phase>, Refusal>,
+);
+
+fn middle<'a>(record: &Record<'a>) -> Middle<'a> {
+    (
+        record.start(),
+        record.end(),
+        record.score(),
+        record.strand(),
+        record.phase(),
+    )
+}
+
+#[test]
+fn columns_4_to_8_are_read() {
+    let records: [(&[u8], Middle); 4] = [
+        (
+            b"\t\t\t1\t1\t.\t.\t.\t",
+            (Ok(1), Ok(1), Ok(None), Ok(Strand::None), Ok(None)),
+        ),
+        (
+            b"sq%200\tlab\tCDS\t0008\t18446744073709551615\t-1.5e3\t+\t0\tID=a\tb",
+            (
+                Ok(8),
+                Ok(18_446_744_073_709_551_615),
+                Ok(Some(b"-1.5e3")),
+                Ok(Strand::Forward),
+                Ok(Some(Phase::Zero)),
+            ),
+        ),
+        (
+            b"##a\tb\tc\t9\t8\t0\t-\t1\tno attribute",
+            (Ok(9), Ok(8), Ok(Some(b"0")), Ok(Strand::Reverse), Ok(Some(Phase::One))),
+        ),
+        (
+            b"a\tb\tc\t1\t2\t00.50E+01\t?\t2\t.",
+            (
+                Ok(1),
+                Ok(2),
+                Ok(Some(b"00.50E+01")),
+                Ok(Strand::Unknown),
+                Ok(Some(Phase::Two)),
+            ),
+        ),
+    ];
+    for (line, expected) in records {
+        let record = Line(line).record().unwrap();
+        assert_eq!(middle(&record), expected);
+        assert_eq!(Record::with_bounds(line, record.bounds()), Ok(record));
+    }
+}
+
+/// Every choice of refused columns among 4 to 8, none and all among them. The texts of a column are of one length, and so the bounds stay.
+#[test]
+fn a_refused_column_leaves_the_others_to_be_read() {
+    for choice in 0..32 {
+        let [start, end, score, strand, phase] = [0, 1, 2, 3, 4].map(|column| choice >> column & 1 == 1);
+        let pick = |refused, [good, bad]: [&'static str; 2]| if refused { bad } else { good };
+        let line = line([
+            "a",
+            "b",
+            "c",
+            pick(start, ["8", "0"]),
+            pick(end, ["13", "-3"]),
+            pick(score, ["0.5", ".50"]),
+            pick(strand, ["-", "*"]),
+            pick(phase, ["2", "3"]),
+            "ID=x",
+        ]);
+        let record = Record::new(line.as_bytes()).unwrap();
+        let expected = (
+            (!start).then_some(8).ok_or(Refusal::Position),
+            (!end).then_some(13).ok_or(Refusal::Position),
+            (!score).then_some(Some(&b"0.5"[..])).ok_or(Refusal::Score),
+            (!strand).then_some(Strand::Reverse).ok_or(Refusal::Strand),
+            (!phase).then_some(Some(Phase::Two)).ok_or(Refusal::Phase),
+        );
+        let bounds = Bounds {
+            reference_sequence_name_end: 2,
+            source_end: 4,
+            type_end: 6,
+            start_end: 8,
+            end_end: 11,
+            score_end: 15,
+            strand_end: 17,
+            phase_end: 19,
+        };
+
+        assert_eq!(middle(&record), expected);
+        assert_eq!(record.bounds(), bounds);
+        let columns = Column::ALL.map(|column| record.column(column));
+        assert_eq!(columns.join(&b'\t'), line.as_bytes());
+        assert_eq!(Record::with_bounds(line.as_bytes(), bounds), Ok(record));
+        let mut other = bounds;
+        other.phase_end -= 1;
+        assert_eq!(Record::with_bounds(line.as_bytes(), other), Err(Refusal::Columns));
+
+        let seven_tabs = &line.as_bytes()[..18];
+        assert_eq!(Record::new(seven_tabs), Err(Refusal::Columns));
+        assert_eq!(Record::with_bounds(seven_tabs, bounds), Err(Refusal::Columns));
+    }
+}
+
+#[test]
+fn each_column_refuses_what_it_does_not_take() {
+    let positions = ["", ".", "0", "000", "+1", "-1", "1 ", "1e3", "18446744073709551616"];
+    let scores = ["", "..", "+1", ".5", "5.", "1e", "1e+", "1 ", "nan", "%2E"];
+    let strands = ["", "..", "++", "*", "1", " ", "%2E"];
+    let phases = ["", "..", "3", "00", "-1", " ", "%2E"];
+    let refused = [
+        (Refusal::Position, &positions[..]),
+        (Refusal::Position, &positions),
+        (Refusal::Score, &scores),
+        (Refusal::Strand, &strands),
+        (Refusal::Phase, &phases),
+    ];
+
+    for (column, (refusal, texts)) in refused.into_iter().enumerate() {
+        for text in texts {
+            let mut columns = ["a", "b", "c", "8", "13", "0.5", "-", "2", "."];
+            columns[3 + column] = text;
+            let line = line(columns);
+            let (start, end, score, strand, phase) = middle(&Record::new(line.as_bytes()).unwrap());
+            let refusals = [start.err(), end.err(), score.err(), strand.err(), phase.err()];
+            let mut expected = [None; 5];
+            expected[column] = Some(refusal);
+            assert_eq!(refusals, expected, "{text:?}");
+        }
+    }
+}
+
 #[test]
 fn bounds_of_another_line_are_refused() {
     let own = Record::new(b"a\tb\tc\td\te\tf\tg\th\ti").unwrap().bounds();

@@ -4,6 +4,10 @@ use denote.Ref.{now}
 use Rattle.base_lists.proofs.One.{OneResult, OneShown}
 use Rattle.base_scan.proofs.find.Kinds as find-kinds
 use Rattle.base_scan.proofs.find.Reads as find
+use Rattle.base_scan.proofs.find_two.Kinds as find-two-kinds
+use Rattle.base_scan.proofs.find_two.Reads as find-two
+use Rattle.base_scan.proofs.mask.marks.Kinds as marks-kinds
+use Rattle.base_scan.proofs.mask.marks.Reads as marks
 use Rattle.base_scan.proofs.place.part.Kinds as part-kinds
 use Rattle.base_scan.proofs.place.part.Reads as part
 use Rattle.base_scan.proofs.place.text.Kinds as text-kinds
@@ -11,6 +15,12 @@ use Rattle.base_scan.proofs.place.text.Reads as text
 
 find-one : OneResult 1 find-kinds.ps find-kinds.r find.Post
 find-one κs a x y s t p q = p .0 ∙ sym (q .0)
+
+find-two-one : OneResult 1 find-two-kinds.ps find-two-kinds.r find-two.Post
+find-two-one κs a x y s t p q = p .0 ∙ sym (q .0)
+
+marks-one : OneResult 1 marks-kinds.ps marks-kinds.r marks.Post
+marks-one κs a x y s t p q = p ∙ sym q
 
 part-one : OneShown 1 part-kinds.ps part-kinds.r part.Post (λ κs x. now x)
 part-one κs a x y s t p q = p ∙ sym q

@@ -1,8 +1,9 @@
 -- The first place in a text that passes a test. Assumes nothing: these are definitions.
-use Prim.Native.Nat.{ℕ, zero, suc}
+use Prim.Native.Nat.{ℕ, zero, suc, _+_}
 use mathlib.Core.Bool.{Bool, true, false, cond}
 use mathlib.Core.List.{List, [], _∷_}
 use lib.Dec.{eqb}
+use Rattle.base_scan.specs.declared.Two.{Two}
 
 -- the index of the first byte that passes, or the length where none does
 unfoldable pub index : (ℕ → Bool) → List ℕ → ℕ
@@ -22,3 +23,7 @@ is c x = eqb x c
 -- the first c from a cursor on, or the length
 abbrev pub found : ℕ → ℕ → List ℕ → ℕ
 found c at s = seek (is c) at s
+
+-- the first b from a cursor on, and the first c behind it; the length for each that there is not
+abbrev pub found-two : ℕ → ℕ → ℕ → List ℕ → Two
+found-two b c at s = record { first = found b at s; second = found c (found b at s + 1) s }

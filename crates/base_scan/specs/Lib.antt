@@ -1,3 +1,3 @@
 pub mod Find
-pub mod Inner
+pub mod Mask
 pub mod Part

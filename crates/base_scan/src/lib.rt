@@ -11,10 +11,17 @@ mod place;
 ghost use mathlib.Core.Path.{_≡_};
 ghost use Prim.Native.Nat.{_≤_};
 ghost use lib.ListN.{length};
-ghost use Rattle.base_scan.specs.Find.{found};
+ghost use Rattle.base_scan.specs.Find.{found, found-two};
+pub use mask::marks;
 pub use place::Place;
 pub use place::part;
 pub use place::text;
+
+// Two places, one behind the other.
+pub struct Two {
+    pub first: usize,
+    pub second: usize,
+}
 
 // Byte by byte: for a text too short for a window.
 fn find_few(s: &[u8], at: usize, b: u8) -> usize
@@ -70,5 +77,67 @@ pub fn find(given: &[u8], at: usize, b: u8) -> usize
         find_few(s, at, b)
     } else {
         find_many(s, at, b)
+    }
+}
+
+// The next b, sought in the window at the cursor first.
+fn near_first(s: &[u8], at: usize, b: u8) -> usize
+    requires { ⌜ at ≤ length (now s) ⌝ }
+    ensures { λ r. ⌜ r ≡ found b at (now (s .entry)) ⌝ }
+{
+    if s.len() - at < 16 {
+        return find(s, at, b);
+    }
+    let m = mask::mask16(s, at, b);
+    if m != 0 {
+        return at + u32::trailing_zeros(m) as usize;
+    }
+    find(s, at + 16, b)
+}
+
+// The next b, sought in the two windows at the cursor first.
+fn near_second(s: &[u8], at: usize, b: u8) -> usize
+    requires { ⌜ at ≤ length (now s) ⌝ }
+    ensures { λ r. ⌜ r ≡ found b at (now (s .entry)) ⌝ }
+{
+    if s.len() - at < 32 {
+        return find(s, at, b);
+    }
+    let m = mask::mask16(s, at, b);
+    if m != 0 {
+        return at + u32::trailing_zeros(m) as usize;
+    }
+    let w = mask::mask16(s, at + 16, b);
+    if w != 0 {
+        return at + 16 + u32::trailing_zeros(w) as usize;
+    }
+    find(s, at + 32, b)
+}
+
+// The first b from `at` on, and the first c behind it; the length for each that there is not: `find_two(b"a=1;b=2", 0, b'=', b';')` is 1
+// and 3. Both are mostly near, so the windows at the cursor become part of the caller, which has each search once, and only what they do
+// not have is left to `find`.
+pub fn find_two(given: &[u8], at: usize, b: u8, c: u8) -> Two
+    ensures places { λ r. ⌜ r ≡ found-two b c at (now (given .entry)) ⌝ }
+    ensures within { λ r. ⌜ (r .first ≤ length (now (given .entry))) × (r .second ≤ length (now (given .entry))) ⌝ }
+{
+    let n = given.len();
+    if n <= at {
+        return Two {
+            first: n,
+            second: n,
+        };
+    }
+    let s = &given[..n];
+    let first = near_first(s, at, b);
+    if first == n {
+        return Two {
+            first: n,
+            second: n,
+        };
+    }
+    Two {
+        first,
+        second: near_second(s, first + 1, c),
     }
 }

@@ -30,6 +30,33 @@ bounds-of-c b =
       «phase_end» = b .«phase_end»;
     }
 
+-- and those that C gets; 0 in place of each where there are none
+abbrev pub c-bounds : Bounds → Gff3Bounds
+c-bounds b =
+    record {
+      «reference_sequence_name_end» = b .«reference_sequence_name_end»;
+      «source_end» = b .«source_end»;
+      «type_end» = b .«type_end»;
+      «start_end» = b .«start_end»;
+      «end_end» = b .«end_end»;
+      «score_end» = b .«score_end»;
+      «strand_end» = b .«strand_end»;
+      «phase_end» = b .«phase_end»;
+    }
+
+abbrev pub no-bounds : Gff3Bounds
+no-bounds =
+    record {
+      «reference_sequence_name_end» = 0;
+      «source_end» = 0;
+      «type_end» = 0;
+      «start_end» = 0;
+      «end_end» = 0;
+      «score_end» = 0;
+      «strand_end» = 0;
+      «phase_end» = 0;
+    }
+
 abbrev pub c-position : PositionRead → Gff3Number
 c-position (position.Is n) = record { refused = position-refusal (position.Is n); value = n }
 c-position (position.Refused n) = record { refused = position-refusal (position.Refused n); value = 0 }

@@ -7,7 +7,7 @@ use base_buffer::Written;
 use read_columns::Bounds;
 use read_tokens::PositionRead;
 ghost use mathlib.Core.Path.{_≡_};
-ghost use Rattle.c_answers.specs.Answers.{bounds-of-c, c-position, c-written};
+ghost use Rattle.c_answers.specs.Answers.{bounds-of-c, c-bounds, no-bounds, c-position, c-written};
 
 #[repr(C)]
 pub struct Gff3Bounds {
@@ -46,6 +46,38 @@ pub fn bounds_in(bounds: Gff3Bounds) -> Bounds
         score_end: bounds.score_end,
         strand_end: bounds.strand_end,
         phase_end: bounds.phase_end,
+    }
+}
+
+// C's bounds of the library's.
+pub fn bounds_out(b: Bounds) -> Gff3Bounds
+    ensures { λ r. ⌜ r ≡ c-bounds b ⌝ }
+{
+    Gff3Bounds {
+        reference_sequence_name_end: b.reference_sequence_name_end,
+        source_end: b.source_end,
+        type_end: b.type_end,
+        start_end: b.start_end,
+        end_end: b.end_end,
+        score_end: b.score_end,
+        strand_end: b.strand_end,
+        phase_end: b.phase_end,
+    }
+}
+
+// What C gets in their place where there are none.
+pub fn no_bounds() -> Gff3Bounds
+    ensures { λ r. ⌜ r ≡ no-bounds ⌝ }
+{
+    Gff3Bounds {
+        reference_sequence_name_end: 0,
+        source_end: 0,
+        type_end: 0,
+        start_end: 0,
+        end_end: 0,
+        score_end: 0,
+        strand_end: 0,
+        phase_end: 0,
     }
 }
 

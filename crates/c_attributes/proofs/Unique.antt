@@ -5,8 +5,6 @@ use Rattle.c_attributes.proofs.gff3_next_field.Kinds as next-field-kind
 use Rattle.c_attributes.proofs.gff3_next_field.Reads as next-field
 use Rattle.c_attributes.proofs.gff3_next_value.Kinds as next-value-kinds
 use Rattle.c_attributes.proofs.gff3_next_value.Reads as next-value
-use Rattle.c_attributes.proofs.gff3_find_tag.Kinds as find-tag-kinds
-use Rattle.c_attributes.proofs.gff3_find_tag.Reads as find-tag
 use Rattle.c_attributes.proofs.gff3_no_attributes.Kinds as no-attributes-kinds
 use Rattle.c_attributes.proofs.gff3_no_attributes.Reads as no-attributes
 
@@ -15,9 +13,6 @@ next-field-one κs a x y s t p q = p ∙ sym q
 
 next-value-one : OneResult 1 next-value-kinds.ps next-value-kinds.r next-value.Post
 next-value-one κs a x y s t p q = p ∙ sym q
-
-find-tag-one : OneResult 2 find-tag-kinds.ps find-tag-kinds.r find-tag.Post
-find-tag-one κs a x y s t p q = p ∙ sym q
 
 no-attributes-one : OneResult 1 no-attributes-kinds.ps no-attributes-kinds.r no-attributes.Post
 no-attributes-one κs a x y s t p q = p ∙ sym q

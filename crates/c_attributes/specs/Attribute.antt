@@ -11,13 +11,9 @@ use Rattle.read_values.specs.declared.ValueCursor.{ValueCursor}
 use Rattle.read_values.specs.declared.NextValue.{NextValue}
 use Rattle.read_values.specs.declared.NextValue.the-variants as value
 use Rattle.read_values.specs.Step.{next-value}
-use Rattle.read_lookup.specs.declared.Found.{Found}
-use Rattle.read_lookup.specs.declared.Found.the-variants as found
-use Rattle.read_lookup.specs.Lookup.{found-refusal}
 use Rattle.c_answers.specs.Answers.{clipped}
 use Rattle.c_attributes.specs.declared.Gff3Field.{Gff3Field}
 use Rattle.c_attributes.specs.declared.Gff3Value.{Gff3Value}
-use Rattle.c_attributes.specs.declared.Gff3Found.{Gff3Found}
 
 -- an answer at a cursor that counts as `here`
 abbrev pub c-field : ℕ → Step → Gff3Field
@@ -53,8 +49,3 @@ c-value here value.Done = record { done = 1; start = 0; end = 0; next = here; ou
 -- what `gff3_next_value` answers
 abbrev pub c-next-value : List ℕ → ℕ → ℕ → Gff3Value
 c-next-value s at out = c-value (clipped s at) (next-value s (cursor-of-c at out))
-
-abbrev pub c-found : Found → Gff3Found
-c-found (found.At place) = record { refused = found-refusal (found.At place); found = 1; start = place .start; end = place .end }
-c-found found.Absent = record { refused = found-refusal found.Absent; found = 0; start = 0; end = 0 }
-c-found found.Refused = record { refused = found-refusal found.Refused; found = 0; start = 0; end = 0 }

@@ -1,17 +1,15 @@
-// Gives C the walk over column 9, the values of an attribute, and an attribute by its tag.
+// Gives C the walk over column 9, and the values of an attribute.
 //
 // Proved: each struct is the library's definition of the answer, by one definition for each enum, which gives each case its numbers and
 // places (RULES 10, 16); a cursor handed out is never beyond the text, and where a walk is done or refused another call with it answers
 // the same (proofs/CursorLaws.antt). Every function takes any bytes and numbers. Assumes nothing.
 use read_attributes::Step;
-use read_lookup::Found;
 use read_values::NextValue;
 use read_values::ValueCursor;
 ghost use mathlib.Core.Path.{_≡_};
 ghost use Rattle.base_lists.specs.Bit.{bit};
 ghost use Rattle.read_attributes.specs.Attributes.{is-empty};
-ghost use Rattle.read_lookup.specs.Lookup.{find-tag};
-ghost use Rattle.c_attributes.specs.Attribute.{c-next-field, c-next-value, c-found};
+ghost use Rattle.c_attributes.specs.Attribute.{c-next-field, c-next-value};
 
 #[repr(C)]
 pub struct Gff3Field {
@@ -31,14 +29,6 @@ pub struct Gff3Value {
     pub end: usize,
     pub next: usize,
     pub out: u64,
-}
-
-#[repr(C)]
-pub struct Gff3Found {
-    pub refused: u64,
-    pub found: u64,
-    pub start: usize,
-    pub end: usize,
 }
 
 // The attribute at a cursor, and the cursor behind it; where the walk is done or refused, the cursor stays. Refusal 5.
@@ -102,33 +92,6 @@ pub extern "C" fn gff3_next_value(value: &[u8], at: usize, out: u64) -> Gff3Valu
             end: 0,
             next: base_numbers::least(at, value.len()),
             out: 1,
-        },
-    }
-}
-
-// The raw value of a tag. Refusal 5.
-#[no_mangle]
-pub extern "C" fn gff3_find_tag(column: &[u8], tag: &[u8]) -> Gff3Found
-    ensures { λ r. ⌜ r ≡ c-found (find-tag (now (column .entry)) (now (tag .entry))) ⌝ }
-{
-    match read_lookup::find_tag(column, tag) {
-        Found::At(place) => Gff3Found {
-            refused: 0,
-            found: 1,
-            start: place.start,
-            end: place.end,
-        },
-        Found::Absent => Gff3Found {
-            refused: 0,
-            found: 0,
-            start: 0,
-            end: 0,
-        },
-        Found::Refused => Gff3Found {
-            refused: 5,
-            found: 0,
-            start: 0,
-            end: 0,
         },
     }
 }

@@ -1,13 +1,8 @@
--- Each public function's promise allows one result. Assumes nothing.
+-- The public function's promise allows one result. Assumes nothing.
 use mathlib.Core.Path.{sym, _∙_}
 use Rattle.base_lists.proofs.One.{OneResult}
-use Rattle.c_columns.proofs.gff3_index.Kinds as index-kinds
-use Rattle.c_columns.proofs.gff3_index.Reads as index
 use Rattle.c_columns.proofs.gff3_column.Kinds as gff3-column-kinds
 use Rattle.c_columns.proofs.gff3_column.Reads as gff3-column
-
-index-one : OneResult 1 index-kinds.ps index-kinds.r index.Post
-index-one κs a x y s t p q = p ∙ sym q
 
 gff3-column-one : OneResult 1 gff3-column-kinds.ps gff3-column-kinds.r gff3-column.Post
 gff3-column-one κs a x y s t p q = p ∙ sym q

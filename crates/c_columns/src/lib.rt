@@ -1,4 +1,4 @@
-// Gives C the columns of a record, raw: the bounds of a line, and where each column stands.
+// Gives C the columns of a record, raw: where each of them stands.
 //
 // Proved: each struct is the library's definition of the answer, by one definition for each enum, which gives each case its numbers and
 // places (RULES 10, 16). Every function takes any bytes and numbers. Assumes nothing.
@@ -6,17 +6,9 @@ use c_answers::Gff3Bounds;
 use read_columns::Bounds;
 use read_columns::Column;
 use read_columns::ColumnRead;
-use read_columns::Indexed;
 ghost use mathlib.Core.Path.{_≡_};
-ghost use Rattle.read_columns.specs.Columns.{indexed};
 ghost use Rattle.c_answers.specs.Answers.{bounds-of-c};
-ghost use Rattle.c_columns.specs.Columns.{column-of-c, c-column-at, c-indexed, c-place};
-
-#[repr(C)]
-pub struct Gff3Indexed {
-    pub refused: u64,
-    pub bounds: Gff3Bounds,
-}
+ghost use Rattle.c_columns.specs.Columns.{column-of-c, c-column-at, c-place};
 
 #[repr(C)]
 pub struct Gff3Place {
@@ -29,41 +21,6 @@ pub struct Gff3Place {
 enum ColumnOf {
     Is(Column),
     NotOne,
-}
-
-// The bounds of a line. Refusal 1: it has fewer than eight tabs.
-#[no_mangle]
-pub extern "C" fn gff3_index(line: &[u8]) -> Gff3Indexed
-    ensures { λ r. ⌜ r ≡ c-indexed (indexed (now (line .entry))) ⌝ }
-{
-    match read_columns::index(line) {
-        Indexed::At(b) => Gff3Indexed {
-            refused: 0,
-            bounds: Gff3Bounds {
-                reference_sequence_name_end: b.reference_sequence_name_end,
-                source_end: b.source_end,
-                type_end: b.type_end,
-                start_end: b.start_end,
-                end_end: b.end_end,
-                score_end: b.score_end,
-                strand_end: b.strand_end,
-                phase_end: b.phase_end,
-            },
-        },
-        Indexed::Refused => Gff3Indexed {
-            refused: 1,
-            bounds: Gff3Bounds {
-                reference_sequence_name_end: 0,
-                source_end: 0,
-                type_end: 0,
-                start_end: 0,
-                end_end: 0,
-                score_end: 0,
-                strand_end: 0,
-                phase_end: 0,
-            },
-        },
-    }
 }
 
 // The column of a number, 1 to 9.

@@ -27,6 +27,8 @@ pub blocks : Blocks
 blocks =
     record {
       find = first (λ _ (given, _) left r. r ≤ length (now given)) (λ M. base-scan.find.Met.met);
+      find-two = first (λ _ (given, _) left r. (r .first ≤ length (now given)) × (r .second ≤ length (now given))) (λ M. base-scan.find_two.Met.met);
+      marks = told (λ M. base-scan.marks.Met.met);
       part = told (λ M. base-scan.part.Met.met);
       text = told (λ M. base-scan.text.Met.met);
       is-dot = told (λ M. base-words.is_dot.Met.met);
@@ -72,6 +74,8 @@ blocks =
       is-spaced = told (λ M. write-texts.is_spaced.Met.met);
       is-unfit = told (λ M. write-texts.is_unfit.Met.met);
       bounds-in = told (λ M. c-answers.bounds_in.Met.met);
+      bounds-out = told (λ M. c-answers.bounds_out.Met.met);
+      no-bounds = told (λ M. c-answers.no_bounds.Met.met);
       position-of = told (λ M. c-answers.position_of.Met.met);
       written-of = told (λ M. c-answers.written_of.Met.met);
     }

@@ -62,6 +62,7 @@ calls =
       score-at = told (λ M. read-fields.score_at.Met.met);
       strand-at = told (λ M. read-fields.strand_at.Met.met);
       phase-at = told (λ M. read-fields.phase_at.Met.met);
+      record-of = told (λ M. read-fields.record_of.Met.met);
       is-empty = told (λ M. read-attributes.is_empty.Met.met);
       next-field = told (λ M. read-attributes.next_field.Met.met);
       value-cursor = told (λ M. read-values.ValueCursor.new.Met.met);

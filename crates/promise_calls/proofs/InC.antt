@@ -5,9 +5,12 @@ use Rattle.read_parts.proofs.CallLaws.{leaves-one}
 use Rattle.c_lines.proofs as c-lines
 use Rattle.c_parts.proofs as c-parts
 use Rattle.c_directives.proofs as c-directives
+use Rattle.c_index.proofs as c-index
 use Rattle.c_columns.proofs as c-columns
+use Rattle.c_record.proofs as c-record
 use Rattle.c_fields.proofs as c-fields
 use Rattle.c_attributes.proofs as c-attributes
+use Rattle.c_lookup.proofs as c-lookup
 use Rattle.c_coding.proofs as c-coding
 use Rattle.c_unfold.proofs as c-unfold
 use Rattle.c_report.proofs as c-report
@@ -24,8 +27,9 @@ in-c =
       gff3-directive = told (λ M. c-lines.gff3_directive.Met.met);
       gff3-take-part = record { does = λ M. c-parts.gff3_take_part.Met.met; one = as-c-one (λ _ _. leaves-one) };
       gff3-end-parts = record { does = λ M. c-parts.gff3_end_parts.Met.met; one = as-c-one (λ _ _. leaves-one) };
-      gff3-index = told (λ M. c-columns.gff3_index.Met.met);
+      gff3-index = told (λ M. c-index.gff3_index.Met.met);
       gff3-column = told (λ M. c-columns.gff3_column.Met.met);
+      gff3-record = told (λ M. c-record.gff3_record.Met.met);
       gff3-text = record { does = λ M. c-fields.gff3_text.Met.met; one = c-wrote-one };
       gff3-position = told (λ M. c-coding.gff3_position.Met.met);
       gff3-start = told (λ M. c-fields.gff3_start.Met.met);
@@ -36,7 +40,7 @@ in-c =
       gff3-no-attributes = told (λ M. c-attributes.gff3_no_attributes.Met.met);
       gff3-next-field = told (λ M. c-attributes.gff3_next_field.Met.met);
       gff3-next-value = told (λ M. c-attributes.gff3_next_value.Met.met);
-      gff3-find-tag = told (λ M. c-attributes.gff3_find_tag.Met.met);
+      gff3-find-tag = told (λ M. c-lookup.gff3_find_tag.Met.met);
       gff3-decode = record { does = λ M. c-coding.gff3_decode.Met.met; one = c-wrote-one };
       gff3-encode = record { does = λ M. c-coding.gff3_encode.Met.met; one = c-wrote-one };
       gff3-version = told (λ M. c-directives.gff3_version.Met.met);

@@ -22,6 +22,9 @@ use Rattle.read_tokens.specs.declared.phase.PhaseRead.the-variants as phase
 use Rattle.read_columns.specs.declared.bounds.Indexed.the-variants as index
 use Rattle.read_columns.specs.declared.column.ColumnRead.the-variants as place
 use Rattle.read_fields.specs.declared.score.ScoreRead.the-variants as score
+use Rattle.read_fields.specs.declared.record.Score.the-variants as score-in
+use Rattle.read_fields.specs.declared.record.Score.{Score}
+use Rattle.read_fields.specs.declared.record.RecordRead.the-variants as whole
 use Rattle.read_values.specs.declared.NextValue.the-variants as value
 use Rattle.read_attributes.specs.declared.field.Step.the-variants as field
 use Rattle.read_lookup.specs.declared.Found.the-variants as found
@@ -34,6 +37,7 @@ use Rattle.read_judge.specs.declared.judging.Judged.the-variants as judge
 use Rattle.read_record.specs.declared.lay.Unfolded.the-variants as unfolded
 use Rattle.read_report.specs.Report.{nothing, counted, morning}
 use Rattle.c_directives.specs.Directive.{c-parts}
+use Rattle.c_record.specs.Record.{score-missing, score-start, score-end}
 use Rattle.c_report.specs.Report.{c-morning}
 use Rattle.promise_calls.specs.NoField.{Zeros, counts, NoField}
 
@@ -59,6 +63,11 @@ module _ (refused major : ℕ) where
   patch-absent (part.Is minor) part.Absent h = zeros 1
   patch-absent (part.Is minor) (part.Is patch) h = absurd (omega arith)
 
+-- a score that is missing has no place
+no-place : (x : Score) → score-missing x ≢ 0 → Zeros (score-start x ∷ score-end x ∷ [])
+no-place score-in.Missing h = zeros 2
+no-place (score-in.Token place) h = absurd (h refl)
+
 -- a refused report counts nothing
 report-refused : (s : List ℕ) → c-morning (morning s) .refused ≢ 0 → Zeros (counts (c-morning (morning s)))
 unfolding morning
@@ -81,6 +90,7 @@ no-field =
           ];
       index = elim [ index.At b ↦ λ h. absurd (h refl) | index.Refused ↦ λ h. zeros 8 ];
       place = elim [ place.At p ↦ λ h. absurd (h refl) | place.Refused ↦ λ h. zeros 2 ];
+      whole = elim [ whole.Is r ↦ λ h. absurd (h refl) | whole.Refused n ↦ λ h. zeros 15 ];
       field = λ here.
           elim [
             | field.Is f ↦ λ h. absurd (h refl)
@@ -141,6 +151,7 @@ no-field =
             | field.Refused ↦ λ h. absurd (h refl)
           ];
       value-done = λ here. elim [ value.Is p c ↦ λ h. absurd (h refl) | value.Done ↦ λ h. zeros 2 ];
+      whole-score-missing = elim [ whole.Is r ↦ no-place (r .score) | whole.Refused n ↦ λ h. absurd (h refl) ];
       score-missing =
           elim [
             | score.Missing ↦ λ h. zeros 2

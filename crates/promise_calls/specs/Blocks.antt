@@ -2,10 +2,11 @@
 -- tied to its definition, as in specs/Calls.antt. Assumes nothing: these are definitions.
 use mathlib.Core.List.{[], _∷_}
 use mathlib.Core.Bool.{cond}
-use lib.ListN.{length}
+use lib.ListN.{length, take}
 use Prim.Native.Nat.{min, _-_, _^_}
 use denote.Ref.{now}
-use Rattle.base_scan.specs.Find.{found}
+use Rattle.base_scan.specs.Find.{found, found-two}
+use Rattle.base_scan.specs.Mask.{mask}
 use Rattle.base_scan.specs.Part.{part, text-at}
 use Rattle.base_words.specs.Same.{same, is-dot}
 use Rattle.base_words.specs.Word as word
@@ -22,7 +23,7 @@ use Rattle.sheet_form.specs.Cursor.{count-at, section-at}
 use Rattle.sheet_form.specs.Sheet.{count-of, section-of}
 use Rattle.read_judge.specs.Judge.{score-of-token}
 use Rattle.write_texts.specs.Text as texts
-use Rattle.c_answers.specs.Answers.{bounds-of-c, c-position, c-written}
+use Rattle.c_answers.specs.Answers.{bounds-of-c, c-bounds, no-bounds, c-position, c-written}
 use Rattle.base_scan.proofs as base-scan
 use Rattle.base_words.proofs as base-words
 use Rattle.base_numbers.proofs as base-numbers
@@ -46,6 +47,10 @@ pub record Blocks : Type 2 where
   -- parts and words of a text
   pub find : Gives base-scan.find.ended base-scan.find.Symbol.routine
       (λ _ (given, (at, (b, _))). found b at (now given))
+  pub find-two : Gives base-scan.find_two.ended base-scan.find_two.Symbol.routine
+      (λ _ (given, (at, (b, (c, _)))). found-two b c at (now given))
+  pub marks : Gives base-scan.marks.ended base-scan.marks.Symbol.routine
+      (λ _ (given, (b, _)). mask b (take 64 (now given)))
   pub part : Shows base-scan.part.ended base-scan.part.Symbol.routine (λ _ r. now r)
       (λ _ (s, (a, (e, _))). part a e (now s))
   pub text : Shows base-scan.text.ended base-scan.text.Symbol.routine (λ _ r. now r)
@@ -147,6 +152,10 @@ pub record Blocks : Type 2 where
   -- answers as C has them
   pub bounds-in : Gives c-answers.bounds_in.ended c-answers.bounds_in.Symbol.routine
       (λ _ (bounds, _). bounds-of-c bounds)
+  pub bounds-out : Gives c-answers.bounds_out.ended c-answers.bounds_out.Symbol.routine
+      (λ _ (bounds, _). c-bounds bounds)
+  pub no-bounds : Gives c-answers.no_bounds.ended c-answers.no_bounds.Symbol.routine
+      (λ _ a. no-bounds)
   pub position-of : Gives c-answers.position_of.ended c-answers.position_of.Symbol.routine
       (λ _ (read, _). c-position read)
   pub written-of : Gives c-answers.written_of.ended c-answers.written_of.Symbol.routine

@@ -17,7 +17,7 @@ use Rattle.read_kind.specs.Kind.{kind, comment-of, directive-of}
 use Rattle.read_tokens.specs.Tokens.{position-of, strand-of, phase-of}
 use Rattle.read_columns.specs.Columns.{indexed, column-at, column-text}
 use Rattle.read_columns.specs.declared.column.Column.the-variants as column
-use Rattle.read_fields.specs.Fields.{position-at, score-at, strand-at, phase-at, text-reasons}
+use Rattle.read_fields.specs.Fields.{position-at, score-at, strand-at, phase-at, record-of, text-reasons}
 use Rattle.read_values.specs.Step as values
 use Rattle.read_attributes.specs.Attributes.{is-empty}
 use Rattle.read_attributes.specs.Step as column9
@@ -109,6 +109,8 @@ pub record Calls : Type 2 where
       (λ _ (line, (bounds, _)). strand-at (now line) bounds)
   pub phase-at : Gives read-fields.phase_at.ended read-fields.phase_at.Symbol.routine
       (λ _ (line, (bounds, _)). phase-at (now line) bounds)
+  pub record-of : Gives read-fields.record_of.ended read-fields.record_of.Symbol.routine
+      (λ _ (line, _). record-of (now line))
   -- RULES 5: column 9
   pub is-empty : Gives read-attributes.is_empty.ended read-attributes.is_empty.Symbol.routine
       (λ _ (column, _). is-empty (now column))

@@ -10,7 +10,7 @@ use Rattle.read_kind.specs.Kind.{kind, kind-number, comment-of, directive-of}
 use Rattle.read_tokens.specs.Tokens.{position-of}
 use Rattle.read_columns.specs.Columns.{indexed}
 use Rattle.read_columns.specs.declared.column.Column.the-variants as column
-use Rattle.read_fields.specs.Fields.{position-at, score-at, strand-at, phase-at}
+use Rattle.read_fields.specs.Fields.{position-at, score-at, strand-at, phase-at, record-of}
 use Rattle.read_attributes.specs.Attributes.{is-empty}
 use Rattle.read_lookup.specs.Lookup.{find-tag}
 use Rattle.read_version.specs.GffVersion.{version-of}
@@ -25,9 +25,12 @@ use Rattle.c_answers.specs.Answers.{bounds-of-c, c-position, CWrote}
 use Rattle.c_lines.specs.Line.{c-next-line, c-comment, c-directive}
 use Rattle.c_parts.specs.Part.{CTakesPart, CEndsParts}
 use Rattle.c_directives.specs.Directive.{c-version, c-region, c-build}
-use Rattle.c_columns.specs.Columns.{column-of-c, c-column-at, c-indexed, c-place}
+use Rattle.c_index.specs.Index.{c-indexed}
+use Rattle.c_columns.specs.Columns.{column-of-c, c-column-at, c-place}
+use Rattle.c_record.specs.Record.{c-record}
 use Rattle.c_fields.specs.Fields.{text-column-of-c, c-text-reasons, c-text, c-score, c-strand, c-phase}
-use Rattle.c_attributes.specs.Attribute.{c-next-field, c-next-value, c-found}
+use Rattle.c_attributes.specs.Attribute.{c-next-field, c-next-value}
+use Rattle.c_lookup.specs.Lookup.{c-found}
 use Rattle.c_coding.specs.Coding.{set-of-c}
 use Rattle.c_unfold.specs.Sheet.{c-judged, CUnfolds}
 use Rattle.c_report.specs.Report.{c-morning}
@@ -35,9 +38,12 @@ use Rattle.c_write.specs.Value.{value-of-c}
 use Rattle.c_lines.proofs as c-lines
 use Rattle.c_parts.proofs as c-parts
 use Rattle.c_directives.proofs as c-directives
+use Rattle.c_index.proofs as c-index
 use Rattle.c_columns.proofs as c-columns
+use Rattle.c_record.proofs as c-record
 use Rattle.c_fields.proofs as c-fields
 use Rattle.c_attributes.proofs as c-attributes
+use Rattle.c_lookup.proofs as c-lookup
 use Rattle.c_coding.proofs as c-coding
 use Rattle.c_unfold.proofs as c-unfold
 use Rattle.c_report.proofs as c-report
@@ -59,10 +65,12 @@ pub record InC : Type 2 where
   pub gff3-end-parts : Fills c-parts.gff3_end_parts.ended c-parts.gff3_end_parts.Symbol.routine (λ _ (_, (hold, _)). now hold)
       (λ _ (state, (hold, _)). CEndsParts state (now hold))
   -- RULES 3 and 4: columns and tokens
-  pub gff3-index : Gives c-columns.gff3_index.ended c-columns.gff3_index.Symbol.routine
+  pub gff3-index : Gives c-index.gff3_index.ended c-index.gff3_index.Symbol.routine
       (λ _ (line, _). c-indexed (indexed (now line)))
   pub gff3-column : Gives c-columns.gff3_column.ended c-columns.gff3_column.Symbol.routine
       (λ _ (line, (bounds, (column, _))). c-place (c-column-at (column-of-c column) (now line) (bounds-of-c bounds)))
+  pub gff3-record : Gives c-record.gff3_record.ended c-record.gff3_record.Symbol.routine
+      (λ _ (line, _). c-record (record-of (now line)))
   pub gff3-text : Fills c-fields.gff3_text.ended c-fields.gff3_text.Symbol.routine (λ _ (_, (_, (_, (out, _)))). now out)
       (λ _ (line, (bounds, (column, (out, _)))). CWrote (c-text-reasons (text-column-of-c column) (now line) (bounds-of-c bounds))
       (c-text (text-column-of-c column) (now line)) (now out))
@@ -85,7 +93,7 @@ pub record InC : Type 2 where
       (λ _ (column, (at, _)). c-next-field (now column) at)
   pub gff3-next-value : Gives c-attributes.gff3_next_value.ended c-attributes.gff3_next_value.Symbol.routine
       (λ _ (value, (at, (out, _))). c-next-value (now value) at out)
-  pub gff3-find-tag : Gives c-attributes.gff3_find_tag.ended c-attributes.gff3_find_tag.Symbol.routine
+  pub gff3-find-tag : Gives c-lookup.gff3_find_tag.ended c-lookup.gff3_find_tag.Symbol.routine
       (λ _ (column, (tag, _)). c-found (find-tag (now column) (now tag)))
   -- RULES 6: percent coding
   pub gff3-decode : Fills c-coding.gff3_decode.ended c-coding.gff3_decode.Symbol.routine (λ _ (_, (out, _)). now out)

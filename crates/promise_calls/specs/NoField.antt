@@ -7,15 +7,19 @@ use mathlib.Core.Path.{_≡_}
 use mathlib.Core.Logic.{_≢_}
 use mathlib.Core.List.{List, [], _∷_}
 use Rattle.base_lists.specs.Bytes.{Every}
+use Rattle.c_answers.specs.declared.Gff3Bounds.{Gff3Bounds}
 use Rattle.c_answers.specs.Answers.{c-position, c-written}
 use Rattle.c_lines.specs.Line.{c-line, c-comment, c-directive}
 use Rattle.read_parts.specs.declared.Part.{Part}
 use Rattle.c_parts.specs.declared.Gff3State.{Gff3State}
 use Rattle.c_parts.specs.Part.{c-part}
 use Rattle.c_directives.specs.Directive.{c-version, c-region, c-build}
-use Rattle.c_columns.specs.Columns.{c-indexed, c-place}
+use Rattle.c_index.specs.Index.{c-indexed}
+use Rattle.c_columns.specs.Columns.{c-place}
+use Rattle.c_record.specs.Record.{c-record}
 use Rattle.c_fields.specs.Fields.{c-score, c-strand, c-phase}
-use Rattle.c_attributes.specs.Attribute.{c-field, c-value, c-found}
+use Rattle.c_attributes.specs.Attribute.{c-field, c-value}
+use Rattle.c_lookup.specs.Lookup.{c-found}
 use Rattle.c_unfold.specs.Sheet.{c-judged, c-unfolded}
 use Rattle.read_report.specs.Report.{morning}
 use Rattle.c_report.specs.declared.Gff3Morning.{Gff3Morning}
@@ -29,6 +33,12 @@ Zeros = Every (λ n. n ≡ 0)
 abbrev pub Bare : {A B : Type 0} → (A → B) → (B → Type 0) → (B → List ℕ) → Type 0
 Bare {A} in-c nothing numbers = (answer : A) → nothing (in-c answer) → Zeros (numbers (in-c answer))
 
+-- all eight ends
+abbrev pub ends-in : Gff3Bounds → List ℕ
+ends-in b =
+    b .«reference_sequence_name_end» ∷ b .«source_end» ∷ b .«type_end» ∷ b .«start_end» ∷ b .«end_end» ∷ b .«score_end» ∷ b .«strand_end»
+    ∷ b .«phase_end» ∷ []
+
 -- all that a report counts
 abbrev pub counts : Gff3Morning → List ℕ
 counts r =
@@ -41,10 +51,10 @@ pub record NoField : Type 0 where
   pub strand : Bare c-strand (λ r. r .refused ≢ 0) (λ r. r .value ∷ [])
   pub phase : Bare c-phase (λ r. r .refused ≢ 0) (λ r. r .value ∷ [])
   pub score : Bare c-score (λ r. r .refused ≢ 0) (λ r. r .missing ∷ r .start ∷ r .end ∷ [])
-  pub index : Bare c-indexed (λ r. r .refused ≢ 0)
-      (λ r. r .bounds .«reference_sequence_name_end» ∷ r .bounds .«source_end» ∷ r .bounds .«type_end» ∷ r .bounds .«start_end»
-      ∷ r .bounds .«end_end» ∷ r .bounds .«score_end» ∷ r .bounds .«strand_end» ∷ r .bounds .«phase_end» ∷ [])
+  pub index : Bare c-indexed (λ r. r .refused ≢ 0) (λ r. ends-in (r .bounds))
   pub place : Bare c-place (λ r. r .refused ≢ 0) (λ r. r .start ∷ r .end ∷ [])
+  pub whole : Bare c-record (λ r. r .refused ≢ 0)
+      (λ r. r .start ∷ r .end ∷ r .«score_missing» ∷ r .«score_start» ∷ r .«score_end» ∷ r .strand ∷ r .phase ∷ ends-in (r .bounds))
   pub field : (here : ℕ) → Bare (c-field here) (λ r. r .refused ≢ 0)
       (λ r. r .done ∷ r .«tag_start» ∷ r .«tag_end» ∷ r .«value_start» ∷ r .«value_end» ∷ [])
   pub found : Bare c-found (λ r. r .refused ≢ 0) (λ r. r .found ∷ r .start ∷ r .end ∷ [])
@@ -68,6 +78,7 @@ pub record NoField : Type 0 where
   pub value-done : (here : ℕ) → Bare (c-value here) (λ r. r .done ≢ 0) (λ r. r .start ∷ r .end ∷ [])
   -- missing, absent, not one
   pub score-missing : Bare c-score (λ r. r .missing ≢ 0) (λ r. r .start ∷ r .end ∷ [])
+  pub whole-score-missing : Bare c-record (λ r. r .«score_missing» ≢ 0) (λ r. r .«score_start» ∷ r .«score_end» ∷ [])
   pub tag-absent : Bare c-found (λ r. r .found ≡ 0) (λ r. r .start ∷ r .end ∷ [])
   pub minor-absent : Bare c-version (λ r. r .parts ≡ 1) (λ r. r .minor ∷ r .patch ∷ [])
   pub patch-absent : Bare c-version (λ r. r .parts ≡ 2) (λ r. r .patch ∷ [])

@@ -40,12 +40,13 @@ pub fn next_field(column: &[u8], at: usize) -> Step
     if column.len() <= at {
         return Step::Done;
     }
-    let equals = base_scan::find(column, at, b'=');
+    let cuts = base_scan::find_two(column, at, b'=', b';');
+    let equals = cuts.first;
     if equals == column.len() {
         return Step::Refused;
     }
     let from = equals + 1;
-    let end = base_scan::find(column, from, b';');
+    let end = cuts.second;
     let tag = Place {
         start: at,
         end: equals,

@@ -101,6 +101,28 @@ pub own-record : (s : List ℕ) → has-columns s ≡ true → is-own s (ends s)
 unfolding is-own indexed
 own-record s e = rw e (same-refl (listed (ends s)))
 
+-- of a line that has not, none pass
+pub own-none : (s : List ℕ) (b : Bounds) → has-columns s ≡ false → is-own s b ≡ false
+unfolding is-own indexed
+own-none s b e = rw e
+
+-- what an index says of its line
+pub indexed-at : (s : List ℕ) {b : Bounds} → indexed s ≡ At b → (has-columns s ≡ true) × (b ≡ ends s)
+unfolding indexed
+indexed-at s {b} e = go (has-columns s) e
+  where
+    go : (t : Bool) → cond t (At (ends s)) Refused ≡ At b → (t ≡ true) × (b ≡ ends s)
+    go true e = (refl, cc)
+    go false e = absurd (let z : _≡_ {A = ℕ} 0 1 = cc in omega arith)
+
+pub indexed-refused : (s : List ℕ) → indexed s ≡ Refused → has-columns s ≡ false
+unfolding indexed
+indexed-refused s e = go (has-columns s) e
+  where
+    go : (t : Bool) → cond t (At (ends s)) Refused ≡ Refused → t ≡ false
+    go true e = absurd (let z : _≡_ {A = ℕ} 0 1 = cc in omega arith)
+    go false e = refl
+
 -- ── a column's place ──────────────────────────────────────────────────────────────────────────
 
 pub place-is : {p : Place} {a e : ℕ} → (p .start ≡ a) × (p .end ≡ e) → p ≡ record { start = a; end = e }

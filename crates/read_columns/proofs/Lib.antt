@@ -1,3 +1,4 @@
 pub mod ColumnsLaws
+mod NearLaws
 mod Samples
 mod Unique

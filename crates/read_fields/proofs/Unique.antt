@@ -11,6 +11,8 @@ use Rattle.read_fields.proofs.score.score_at.Kinds as score-at-kinds
 use Rattle.read_fields.proofs.score.score_at.Reads as score-at
 use Rattle.read_fields.proofs.strand.strand_at.Kinds as strand-at-kinds
 use Rattle.read_fields.proofs.strand.strand_at.Reads as strand-at
+use Rattle.read_fields.proofs.record.record_of.Kinds as record-of-kinds
+use Rattle.read_fields.proofs.record.record_of.Reads as record-of
 use Rattle.read_fields.proofs.phase.phase_at.Kinds as phase-at-kinds
 use Rattle.read_fields.proofs.phase.phase_at.Reads as phase-at
 use Rattle.read_fields.proofs.texts.reference_sequence_name.Kinds as reference-sequence-name-kinds
@@ -34,6 +36,9 @@ strand-at-one κs a x y s t p q = p ∙ sym q
 
 phase-at-one : OneResult 1 phase-at-kinds.ps phase-at-kinds.r phase-at.Post
 phase-at-one κs a x y s t p q = p ∙ sym q
+
+record-of-one : OneResult 1 record-of-kinds.ps record-of-kinds.r record-of.Post
+record-of-one κs a x y s t p q = p ∙ sym q
 
 reference-sequence-name-one : One 2 reference-sequence-name-kinds.ps reference-sequence-name-kinds.r reference-sequence-name.Post
     (λ κs x. x) (λ κs s. now (s .1 .1 .0))

@@ -8,8 +8,10 @@ use Rattle.base_scan.specs.declared.place.Place.{Place}
 use Rattle.base_buffer.specs.Answer.{Reason, _when_}
 use Rattle.read_tokens.specs.declared.position.PositionRead.{PositionRead}
 use Rattle.read_tokens.specs.declared.position.PositionRead.the-variants as position-read
+use Rattle.read_tokens.specs.declared.strand.Strand.{Strand}
 use Rattle.read_tokens.specs.declared.strand.StrandRead.{StrandRead}
 use Rattle.read_tokens.specs.declared.strand.StrandRead.the-variants as strand-read
+use Rattle.read_tokens.specs.declared.phase.Phase.{Phase}
 use Rattle.read_tokens.specs.declared.phase.PhaseRead.{PhaseRead}
 use Rattle.read_tokens.specs.declared.phase.PhaseRead.the-variants as phase-read
 use Rattle.read_tokens.specs.Tokens.{position-of, strand-of, phase-of}
@@ -17,11 +19,19 @@ use Rattle.read_score.specs.Score.{is-score}
 use Rattle.read_columns.specs.declared.bounds.Bounds.{Bounds}
 use Rattle.read_columns.specs.declared.column.Column.{Column}
 use Rattle.read_columns.specs.declared.column.Column.the-variants as column
-use Rattle.read_columns.specs.Columns.{is-own, column-text, column-place}
+use Rattle.read_columns.specs.Columns.{ends, is-own, column-text, column-place}
+use Rattle.read_fields.specs.declared.record.RecordRead.{RecordRead}
+use Rattle.read_fields.specs.declared.record.RecordRead.the-variants as record-read
+use Rattle.read_fields.specs.declared.record.Score.{Score}
+use Rattle.read_fields.specs.declared.record.Score.the-variants as score
 use Rattle.read_fields.specs.declared.score.ScoreRead.{ScoreRead}
 use Rattle.read_fields.specs.declared.score.ScoreRead.the-variants as score-read
 
 -- ── the number of each refusal (RULES 10), and 0 where there is none ──
+
+abbrev pub record-refusal : RecordRead → ℕ
+record-refusal (record-read.Is r) = 0
+record-refusal (record-read.Refused n) = n
 
 abbrev pub score-refusal : ScoreRead → ℕ
 score-refusal score-read.Missing = 0
@@ -47,6 +57,43 @@ strand-at s b = cond (is-own s b) (strand-of (column-text column.Strand s)) (str
 
 unfoldable pub phase-at : List ℕ → Bounds → PhaseRead
 phase-at s b = cond (is-own s b) (phase-of (column-text column.Phase s)) (phase-read.Refused 1)
+
+-- ── a record at once ──
+
+abbrev pub with-position : PositionRead → (ℕ → RecordRead) → RecordRead
+with-position (position-read.Is n) more = more n
+with-position (position-read.Refused n) more = record-read.Refused n
+
+abbrev pub with-score : ScoreRead → (Score → RecordRead) → RecordRead
+with-score score-read.Missing more = more score.Missing
+with-score (score-read.Token place) more = more (score.Token place)
+with-score (score-read.Refused n) more = record-read.Refused n
+
+abbrev pub with-strand : StrandRead → (Strand → RecordRead) → RecordRead
+with-strand (strand-read.Is x) more = more x
+with-strand (strand-read.Refused n) more = record-read.Refused n
+
+abbrev pub with-phase : PhaseRead → (Phase → RecordRead) → RecordRead
+with-phase (phase-read.Is x) more = more x
+with-phase (phase-read.Refused n) more = record-read.Refused n
+
+-- answers one after another: the first refusal, or all of them beside the bounds
+abbrev pub together : Bounds → PositionRead → PositionRead → ScoreRead → StrandRead → PhaseRead → RecordRead
+together b start-read end-read score-read strand-read phase-read =
+    with-position start-read (λ start.
+    with-position end-read (λ end.
+    with-score score-read (λ score.
+    with-strand strand-read (λ strand.
+    with-phase phase-read (λ phase.
+    record-read.Is (record { bounds = b; start = start; end = end; score = score; strand = strand; phase = phase }))))))
+
+-- the readers by the line's bounds (RULES 3.5), in the order of RULES 11.2
+unfoldable pub record-of : List ℕ → RecordRead
+record-of s =
+    together (ends s) (position-at column.Start s (ends s)) (position-at column.End s (ends s)) (score-at s (ends s)) (strand-at s (ends s))
+    (phase-at s (ends s))
+
+-- ── texts ──
 
 -- the texts are decoded into a buffer: 1, then 22
 abbrev pub text-reasons : List ℕ → Bounds → List Reason

@@ -12,10 +12,9 @@ use Rattle.base_words.specs.Same.{is-dot}
 use Rattle.base_buffer.specs.Answer.{refusal-of, unless}
 use Rattle.base_buffer.proofs.AnswerLaws.{Numbered, none-of, unless-append, unless-map, unless-is, unless-not}
 use Rattle.read_columns.specs.declared.bounds.Bounds.{Bounds}
-use Rattle.read_columns.specs.declared.bounds.Indexed.the-variants as indexing
 use Rattle.read_columns.specs.declared.column.Column.{Column}
 use Rattle.read_columns.specs.declared.column.Column.the-variants as column
-use Rattle.read_columns.specs.Columns.{ends, has-columns, indexed, column-place, column-text}
+use Rattle.read_columns.specs.Columns.{ends, column-place, column-text}
 use Rattle.read_columns.proofs.ColumnsLaws.{text-short}
 use Rattle.percent_coding.proofs.PercentLaws.{length-decoded}
 use Rattle.read_attributes.specs.Attributes.{Attribute, attributes, walk}
@@ -137,24 +136,6 @@ module _ (s : List ℕ) where
         column-short column.Score,
         column-short column.Attributes,
       )
-
--- ── the line's bounds ─────────────────────────────────────────────────────────────────────────
-
-pub indexed-at : (s : List ℕ) {b : Bounds} → indexed s ≡ indexing.At b → (has-columns s ≡ true) × (b ≡ ends s)
-unfolding indexed
-indexed-at s {b} e = go (has-columns s) e
-  where
-    go : (t : Bool) → cond t (indexing.At (ends s)) indexing.Refused ≡ indexing.At b → (t ≡ true) × (b ≡ ends s)
-    go true e = (refl, cc)
-    go false e = absurd (let z : _≡_ {A = ℕ} 0 1 = cc in omega arith)
-
-pub indexed-refused : (s : List ℕ) → indexed s ≡ indexing.Refused → has-columns s ≡ false
-unfolding indexed
-indexed-refused s e = go (has-columns s) e
-  where
-    go : (t : Bool) → cond t (indexing.At (ends s)) indexing.Refused ≡ indexing.Refused → t ≡ false
-    go true e = absurd (let z : _≡_ {A = ℕ} 0 1 = cc in omega arith)
-    go false e = refl
 
 -- ── what an answer says ───────────────────────────────────────────────────────────────────────
 

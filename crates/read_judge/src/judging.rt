@@ -2,12 +2,10 @@
 use read_attributes::Step;
 use read_columns::Bounds;
 use read_columns::Column;
-use read_columns::Indexed;
+use read_fields::Record;
+use read_fields::RecordRead;
 use read_tokens::Phase;
-use read_tokens::PhaseRead;
-use read_tokens::PositionRead;
 use read_tokens::Strand;
-use read_tokens::StrandRead;
 use read_values::NextValue;
 use read_values::ValueCursor;
 ghost use mathlib.Core.Path.{_≡_};
@@ -15,11 +13,13 @@ ghost use Prim.Native.Nat.{_+_, _*_, _≤_};
 ghost use lib.ListN.{length};
 ghost use Rattle.base_lists.specs.Limits.{most-line};
 ghost use Rattle.read_columns.specs.Columns.{ends};
+ghost use Rattle.read_fields.specs.declared.record.RecordRead.the-variants.{Is};
+ghost use Rattle.read_fields.specs.Fields.{record-of};
 ghost use Rattle.read_attributes.specs.Attributes.{values, attribute, attributes, walk};
 ghost use Rattle.sheet_form.specs.Sheet.{section-of, counted-of, attribute-of};
 ghost use Rattle.read_judge.specs.Judge.{unfolded, judged};
 ghost use Rattle.read_judge.specs.Survey.{surveyed};
-ghost use Rattle.read_judge.specs.Inner.Fields.{middle-of, survey-fields};
+ghost use Rattle.read_judge.specs.Inner.Fields.{numbers-in, survey-fields};
 ghost use Rattle.read_judge.specs.Inner.Size.{texts-length, sized};
 
 // What goes beside the sheet.
@@ -124,66 +124,48 @@ fn texts_len(line: &[u8], bounds: Bounds) -> usize
     16 + name + source + ty + score.len()
 }
 
-// Columns 4 to 8 of a record whose bounds these are. Refusals, in order: 2 (start, then end), 17, 3, 4.
-pub(crate) fn middle_of(line: &[u8], bounds: Bounds) -> NumbersRead
-    requires { ⌜ bounds ≡ ends (now line) ⌝ }
-    ensures { λ r. ⌜ r ≡ middle-of (now (line .entry)) ⌝ }
+// The numbers of a record that was read.
+pub(crate) fn numbers_in(read: Record) -> Numbers
+    ensures { λ r. ⌜ r ≡ numbers-in read ⌝ }
 {
-    let start_text = read_columns::text_in(line, bounds, Column::Start);
-    let PositionRead::Is(start) = read_tokens::position_of(start_text) else {
-        return NumbersRead::Refused(2);
-    };
-    let end_text = read_columns::text_in(line, bounds, Column::End);
-    let PositionRead::Is(end) = read_tokens::position_of(end_text) else {
-        return NumbersRead::Refused(2);
-    };
-    let token = read_columns::text_in(line, bounds, Column::Score);
-    if !(base_words::is_dot(token) | read_score::is_score(token)) {
-        return NumbersRead::Refused(17);
-    }
-    let strand_text = read_columns::text_in(line, bounds, Column::Strand);
-    let StrandRead::Is(strand) = read_tokens::strand_of(strand_text) else {
-        return NumbersRead::Refused(3);
-    };
-    let phase_text = read_columns::text_in(line, bounds, Column::Phase);
-    let PhaseRead::Is(phase) = read_tokens::phase_of(phase_text) else {
-        return NumbersRead::Refused(4);
-    };
-    NumbersRead::Is(Numbers {
-        start,
-        end,
+    let strand = read.strand;
+    let phase = read.phase;
+    Numbers {
+        start: read.start,
+        end: read.end,
         strand,
         phase,
-    })
-}
-
-// The fields of a record whose bounds these are. Refusals, in order: 2 (start, then end), 17, 3, 4, 5.
-fn survey_fields(line: &[u8], bounds: Bounds) -> Surveyed
-    requires { ⌜ (bounds ≡ ends (now line)) × (length (now line) ≤ most-line) ⌝ }
-    ensures { λ r. ⌜ r ≡ survey-fields (now (line .entry)) ⌝ }
-{
-    match middle_of(line, bounds) {
-        NumbersRead::Is(numbers) => {
-            let rest = read_columns::text_in(line, bounds, Column::Attributes);
-            let Size::Is(count, length) = attributes_size(rest) else {
-                return Surveyed::Refused(5);
-            };
-            Surveyed::Is(numbers, bounds, count, texts_len(line, bounds) + 4 + length)
-        }
-        NumbersRead::Refused(n) => Surveyed::Refused(n),
     }
 }
 
-// The line indexed, once, and its fields surveyed. Refusals as those of `judge`.
+// A record that was read, and the size of its sheet. Refusal 5.
+fn survey_fields(line: &[u8], read: Record) -> Surveyed
+    requires { ⌜ (record-of (now line) ≡ Is read) × (length (now line) ≤ most-line) ⌝ }
+    ensures { λ r. ⌜ r ≡ survey-fields (now (line .entry)) ⌝ }
+{
+    let bounds = read.bounds;
+    let rest = read_columns::text_in(line, bounds, Column::Attributes);
+    let Size::Is(count, length) = attributes_size(rest) else {
+        return Surveyed::Refused(5);
+    };
+    Surveyed::Is(
+        numbers_in(read),
+        bounds,
+        count,
+        texts_len(line, bounds) + 4 + length,
+    )
+}
+
+// The line read, by one index, and its sheet measured. Refusals as those of `judge`.
 pub fn survey(line: &[u8]) -> Surveyed
     ensures { λ r. ⌜ r ≡ surveyed (now (line .entry)) ⌝ }
 {
     if base_buffer::MOST_LINE < line.len() {
         return Surveyed::Refused(24);
     }
-    match read_columns::index(line) {
-        Indexed::At(bounds) => survey_fields(line, bounds),
-        Indexed::Refused => Surveyed::Refused(1),
+    match read_fields::record_of(line) {
+        RecordRead::Is(read) => survey_fields(line, read),
+        RecordRead::Refused(n) => Surveyed::Refused(n),
     }
 }
 

@@ -1,11 +1,12 @@
 // A line judged for its numbers alone: no text is decoded, and nothing of the sheet is measured.
 use super::judging::NumbersRead;
 use read_attributes::Step;
-use read_columns::Bounds;
 use read_columns::Column;
-use read_columns::Indexed;
+use read_fields::Record;
+use read_fields::RecordRead;
 ghost use mathlib.Core.Path.{_≡_};
-ghost use Rattle.read_columns.specs.Columns.{ends};
+ghost use Rattle.read_fields.specs.declared.record.RecordRead.the-variants.{Is};
+ghost use Rattle.read_fields.specs.Fields.{record-of};
 ghost use Rattle.read_attributes.specs.Attributes.{attributes, walk};
 ghost use Rattle.read_judge.specs.Judge.{stuck, judged, numbers-judged};
 ghost use Rattle.read_judge.specs.Inner.Fields.{numbers-fields};
@@ -24,20 +25,16 @@ fn is_stuck(column: &[u8]) -> bool
     }
 }
 
-// The numbers of a record whose bounds these are. Refusals, in order: 2 (start, then end), 17, 3, 4, 5.
-fn fields_numbers(line: &[u8], bounds: Bounds) -> NumbersRead
-    requires { ⌜ bounds ≡ ends (now line) ⌝ }
+// The numbers of a record that was read, where column 9 does not refuse them. Refusal 5.
+fn fields_numbers(line: &[u8], read: Record) -> NumbersRead
+    requires { ⌜ record-of (now line) ≡ Is read ⌝ }
     ensures { λ r. ⌜ r ≡ numbers-fields (now (line .entry)) ⌝ }
 {
-    match super::judging::middle_of(line, bounds) {
-        NumbersRead::Is(numbers) => {
-            if is_stuck(read_columns::text_in(line, bounds, Column::Attributes)) {
-                return NumbersRead::Refused(5);
-            }
-            NumbersRead::Is(numbers)
-        }
-        NumbersRead::Refused(n) => NumbersRead::Refused(n),
+    let bounds = read.bounds;
+    if is_stuck(read_columns::text_in(line, bounds, Column::Attributes)) {
+        return NumbersRead::Refused(5);
     }
+    NumbersRead::Is(super::judging::numbers_in(read))
 }
 
 // The numbers of a line, or what refuses it, as `judge` has them.
@@ -47,8 +44,8 @@ pub fn judge_numbers(line: &[u8]) -> NumbersRead
     if base_buffer::MOST_LINE < line.len() {
         return NumbersRead::Refused(24);
     }
-    match read_columns::index(line) {
-        Indexed::At(bounds) => fields_numbers(line, bounds),
-        Indexed::Refused => NumbersRead::Refused(1),
+    match read_fields::record_of(line) {
+        RecordRead::Is(read) => fields_numbers(line, read),
+        RecordRead::Refused(n) => NumbersRead::Refused(n),
     }
 }

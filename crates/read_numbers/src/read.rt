@@ -12,7 +12,8 @@ pub enum Number {
     Invalid,
 }
 
-// One or more digits from `at` on, whose value lies from `least` to `most`.
+// One or more digits from `at` on, whose value lies from `least` to `most`. Behind `safe` any digit may follow, so the exact bound,
+// which costs a division, is asked of numbers above it alone.
 fn digits(s: &[u8], at: usize, least: u64, most: u64) -> Number
     requires { ⌜ 9 ≤ most ⌝ }
     ensures { λ r. ⌜ r ≡ numeral least most (drop at (now (s .entry))) ⌝ }
@@ -20,6 +21,7 @@ fn digits(s: &[u8], at: usize, least: u64, most: u64) -> Number
     if s.len() <= at {
         return Number::Invalid;
     }
+    let safe = (most - 9) / 10;
     let mut v: u64 = 0;
     let mut i = at;
     while i < s.len() {
@@ -28,7 +30,7 @@ fn digits(s: &[u8], at: usize, least: u64, most: u64) -> Number
             return Number::Invalid;
         }
         let d = (b - 48) as u64;
-        if v > (most - d) / 10 {
+        if v > safe && v > (most - d) / 10 {
             return Number::Invalid;
         }
         v = v * 10 + d;

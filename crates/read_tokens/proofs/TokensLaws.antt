@@ -1,10 +1,13 @@
--- Laws of strand and phase: a text of one byte is judged by it, any other is refused; what is written for the number of a strand
--- or a phase is read as it; no two strands and no two phases have one number. Assumes nothing.
+-- Laws of strand and phase: a text of one byte is judged by it, any other is refused, by one number; what is written for
+-- the number of a strand or a phase is read as it; no two strands and no two phases have one number. Assumes nothing.
 use Prim.Native.Nat.{ℕ}
 use native.Mathlib.Omega.{arith}
 use mathlib.Core.Path.{_≡_, refl, sym, ap, _∙_}
+use mathlib.Core.Bool.{Bool, true, false, cond}
 use mathlib.Core.List.{List, [], _∷_}
+use lib.Dec.{eqb}
 use lib.ListN.{length, getD}
+use Rattle.base_lists.specs.Bytes.{plus, minus, dot, question}
 use Rattle.read_tokens.specs.declared.strand.Strand.{Strand}
 use Rattle.read_tokens.specs.declared.strand.Strand.the-variants as strand
 use Rattle.read_tokens.specs.declared.strand.StrandRead.the-variants as strand-read
@@ -43,6 +46,39 @@ strand-one-byte = one-byte strand-of strand-of-byte refl (λ x. refl) (λ x y s.
 pub phase-one-byte : OneByte phase-of phase-of-byte (phase-read.Refused 4)
 unfolding phase-of
 phase-one-byte = one-byte phase-of phase-of-byte refl (λ x. refl) (λ x y s. refl)
+
+-- ── refused ───────────────────────────────────────────────────────────────────────────────────
+
+-- the last of four choices, where none of the four is what was chosen
+neither : {A : Type 0} (a b c d : Bool) {w x y z no r : A} → cond a w (cond b x (cond c y (cond d z no))) ≡ r → (w ≡ r → ⊥) → (x ≡ r → ⊥)
+    → (y ≡ r → ⊥) → (z ≡ r → ⊥) → no ≡ r
+neither true b c d e f g h i = absurd (f e)
+neither false true c d e f g h i = absurd (g e)
+neither false false true d e f g h i = absurd (h e)
+neither false false false true e f g h i = absurd (i e)
+neither false false false false e f g h i = e
+
+-- a strand is refused by 3 alone, and a phase by 4
+module _ {n : ℕ} where
+  strand-other : {t : Strand} → strand-read.Is t ≡ strand-read.Refused n → ⊥
+  strand-other e = let z : _≡_ {A = ℕ} 0 1 = cc in omega arith
+
+  pub strand-three : (s : List ℕ) → strand-of s ≡ strand-read.Refused n → n ≡ 3
+  unfolding strand-of
+  strand-three [] e = cc
+  strand-three (x ∷ []) e =
+      let last = neither (eqb x dot) (eqb x plus) (eqb x minus) (eqb x question) e strand-other strand-other strand-other strand-other in cc
+  strand-three (x ∷ y ∷ s) e = cc
+
+  phase-other : {p : Phase} → phase-read.Is p ≡ phase-read.Refused n → ⊥
+  phase-other e = let z : _≡_ {A = ℕ} 0 1 = cc in omega arith
+
+  pub phase-four : (s : List ℕ) → phase-of s ≡ phase-read.Refused n → n ≡ 4
+  unfolding phase-of
+  phase-four [] e = cc
+  phase-four (x ∷ []) e =
+      let last = neither (eqb x dot) (eqb x 48) (eqb x 49) (eqb x 50) e phase-other phase-other phase-other phase-other in cc
+  phase-four (x ∷ y ∷ s) e = cc
 
 -- ── written and read ──────────────────────────────────────────────────────────────────────────
 

@@ -8,7 +8,7 @@ use borrow.Author.Needs.{needs}
 use lib.ListN.{length, drop, take}
 use lib.Count.{trailingZeros, trailing-le}
 use Rattle.base_scan.specs.Find.{is, found}
-use Rattle.base_scan.specs.Inner.Mask.{mask}
+use Rattle.base_scan.specs.Mask.{mask}
 use Rattle.base_scan.proofs.FindLaws.{seek-end}
 use Rattle.base_scan.proofs.MaskLaws.{passed, hit, mask-tail, tail-none, tail-hit}
 use Rattle.base_scan.proofs.find_many.Statement.{statement}
@@ -47,10 +47,7 @@ shifted : (c : tie.After-mask162 Inv-loop μ-loop)
     c .mask162 .result / 2 ^ (l .loop .i - (length (a .s .now) - 16)) ≡ mask (a .b) (drop (l .loop .i) (a .s .now))
 shifted c =
     let l = c .before .before .before in
-    let a = l .before .before .args in
-    let last = length (a .s .now) - 16 in
-    ap (λ (x : ℕ). x / 2 ^ (l .loop .i - last)) (c .mask162 .ensures .0)
-    ∙ mask-tail (a .b) 16 last (l .loop .i) (a .s .now) (omega arith) (omega arith)
+    let a = l .before .before .args in mask-tail (a .b) 16 (l .loop .i) (a .s .now) (omega arith) (omega arith) (c .mask162 .ensures .0)
 
 few : (c : tie.After-mask162 Inv-loop μ-loop)
     → let l = c .before .before .before in

@@ -3,7 +3,7 @@
 use std::io::{BufRead, BufReader};
 
 use super::{Door, record};
-use crate::{Line, line::Kind};
+use crate::{Line, line::Kind, record::attributes::field::Value};
 
 /// Lines, and the sum of their lengths without ends. Calls the inner `read_line` of io/reader.rs, one buffer for all lines.
 #[inline(never)]
@@ -77,6 +77,18 @@ pub fn attributes(columns: &[&[u8]]) -> (u64, u64) {
     }
 
     (count, sum)
+}
+
+/// Values of an attribute, and the sum of their lengths when decoded. Calls `parse_value` of record/attributes/field/value.rs and
+/// `Array::iter` of array.rs.
+#[inline(never)]
+pub fn values(raw: &[u8]) -> (u64, u64) {
+    match Door::parse_value(raw) {
+        Value::String(value) => (1, value.len() as u64),
+        Value::Array(array) => array
+            .iter()
+            .fold((0, 0), |(count, sum), value| (count + 1, sum + value.len() as u64)),
+    }
 }
 
 /// Attributes of all records of a text, and the sum of the lengths of their raw tags and values, up to a refusal in each.
