@@ -4,7 +4,6 @@ use mathlib.Core.Bool.{cond}
 use mathlib.Core.List.{List}
 use lib.Dec.{eqb}
 use Rattle.read_columns.specs.declared.bounds.Bounds.{Bounds}
-use Rattle.read_columns.specs.declared.column.Column.{Column}
 use Rattle.read_columns.specs.declared.column.Column.the-variants as column
 use Rattle.read_columns.specs.declared.column.ColumnRead.{ColumnRead}
 use Rattle.read_columns.specs.declared.column.ColumnRead.the-variants as column-read

@@ -1,7 +1,6 @@
 -- A record read at once as C has it, a case at a time (RULES 16). Assumes nothing: these are definitions.
 use Prim.Native.Nat.{ℕ}
 use Rattle.read_tokens.specs.Tokens.{strand-number, phase-number}
-use Rattle.read_fields.specs.declared.record.Record.{Record}
 use Rattle.read_fields.specs.declared.record.RecordRead.{RecordRead}
 use Rattle.read_fields.specs.declared.record.RecordRead.the-variants.{Is, Refused}
 use Rattle.read_fields.specs.declared.record.Score.{Score}

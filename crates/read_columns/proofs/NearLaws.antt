@@ -1,5 +1,5 @@
 -- Laws of the ends by a mask: where the first 64 bytes of a line have its eight tabs, they are the line's own. Assumes nothing.
-use Prim.Native.Nat.{ℕ, zero, suc, _+_, _-_, _*_, _^_, _≤_, _<_}
+use Prim.Native.Nat.{ℕ, zero, suc, _+_, _-_, _≤_, _<_}
 use native.Mathlib.Omega.{arith}
 use native.Mathlib.Nat.{one-mul}
 use mathlib.Core.Path.{_≡_, sym, ap, _∙_}

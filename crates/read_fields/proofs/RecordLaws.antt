@@ -1,8 +1,8 @@
 -- What a record read at once says: its answers are the readers' own. Assumes nothing.
 use Prim.Native.Nat.{ℕ}
 use native.Mathlib.Omega.{arith}
-use mathlib.Core.Path.{_≡_, refl, sym, ap, _∙_}
-use mathlib.Core.Bool.{Bool, true, false, cond}
+use mathlib.Core.Path.{_≡_, refl, sym, _∙_}
+use mathlib.Core.Bool.{Bool, true, false}
 use mathlib.Core.List.{List}
 use Rattle.read_tokens.specs.declared.position.PositionRead.{PositionRead}
 use Rattle.read_tokens.specs.declared.position.PositionRead.the-variants as position-read
@@ -14,10 +14,9 @@ use Rattle.read_tokens.specs.Tokens.{position-of, strand-of, phase-of}
 use Rattle.read_columns.specs.declared.bounds.Bounds.{Bounds}
 use Rattle.read_columns.specs.declared.bounds.Indexed.the-variants.{At}
 use Rattle.read_columns.specs.declared.column.Column.the-variants as column
-use Rattle.read_columns.specs.Columns.{ends, has-columns, indexed, is-own, column-text, column-place}
+use Rattle.read_columns.specs.Columns.{ends, has-columns, indexed, column-text, column-place}
 use Rattle.read_columns.proofs.ColumnsLaws.{own-record, own-none}
 use Rattle.read_fields.specs.declared.record.Record.{Record}
-use Rattle.read_fields.specs.declared.record.RecordRead.{RecordRead}
 use Rattle.read_fields.specs.declared.record.RecordRead.the-variants.{Is, Refused}
 use Rattle.read_fields.specs.declared.record.Score.{Score}
 use Rattle.read_fields.specs.declared.record.Score.the-variants as score

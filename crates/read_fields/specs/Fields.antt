@@ -79,12 +79,12 @@ with-phase (phase-read.Refused n) more = record-read.Refused n
 
 -- answers one after another: the first refusal, or all of them beside the bounds
 abbrev pub together : Bounds → PositionRead → PositionRead → ScoreRead → StrandRead → PhaseRead → RecordRead
-together b start-read end-read score-read strand-read phase-read =
-    with-position start-read (λ start.
-    with-position end-read (λ end.
-    with-score score-read (λ score.
-    with-strand strand-read (λ strand.
-    with-phase phase-read (λ phase.
+together b start-answer end-answer score-answer strand-answer phase-answer =
+    with-position start-answer (λ start.
+    with-position end-answer (λ end.
+    with-score score-answer (λ score.
+    with-strand strand-answer (λ strand.
+    with-phase phase-answer (λ phase.
     record-read.Is (record { bounds = b; start = start; end = end; score = score; strand = strand; phase = phase }))))))
 
 -- the readers by the line's bounds (RULES 3.5), in the order of RULES 11.2

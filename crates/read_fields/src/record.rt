@@ -12,7 +12,7 @@ use read_tokens::StrandRead;
 ghost use mathlib.Core.Path.{_≡_};
 ghost use Rattle.read_columns.specs.Columns.{ends};
 ghost use Rattle.read_fields.specs.Fields.{record-of};
-ghost use Rattle.read_fields.specs.Inner.Middle.{middle-of};
+ghost use Rattle.read_fields.specs.Inner.ByBounds.{fields-in};
 
 pub enum Score {
     // The exact byte `.`.
@@ -37,9 +37,9 @@ pub enum RecordRead {
 }
 
 // Columns 4 to 8 of a record whose bounds these are. Refusals, in order: 2 (start, then end), 17, 3, 4.
-fn middle_of(line: &[u8], bounds: Bounds) -> RecordRead
+fn fields_in(line: &[u8], bounds: Bounds) -> RecordRead
     requires { ⌜ bounds ≡ ends (now line) ⌝ }
-    ensures { λ r. ⌜ r ≡ middle-of (now (line .entry)) ⌝ }
+    ensures { λ r. ⌜ r ≡ fields-in (now (line .entry)) ⌝ }
 {
     let start_text = read_columns::text_in(line, bounds, Column::Start);
     let start = match read_tokens::position_of(start_text) {
@@ -82,7 +82,7 @@ pub fn record_of(line: &[u8]) -> RecordRead
     ensures { λ r. ⌜ r ≡ record-of (now (line .entry)) ⌝ }
 {
     match read_columns::index(line) {
-        Indexed::At(bounds) => middle_of(line, bounds),
+        Indexed::At(bounds) => fields_in(line, bounds),
         Indexed::Refused => RecordRead::Refused(1),
     }
 }

@@ -4,7 +4,7 @@ use read_columns::Bounds;
 use read_columns::Column;
 ghost use mathlib.Core.Path.{_≡_};
 ghost use Rattle.read_fields.specs.Fields.{score-at};
-ghost use Rattle.read_fields.specs.Inner.Middle.{score-in};
+ghost use Rattle.read_fields.specs.Inner.ByBounds.{score-in};
 
 pub enum ScoreRead {
     // The exact byte `.`.

@@ -1,16 +1,15 @@
 -- `find_many`: no window before i has b, so the first place is the same from i on; the last window is read with its lowest digits
 -- shifted out. Assumes nothing.
 use mathlib.Core.Path.{_≡_, refl, sym, ap, _∙_}
-use mathlib.Core.List.{List}
-use Prim.Native.Nat.{ℕ, _+_, _-_, _/_, _^_, _≤_, _<_}
+use Prim.Native.Nat.{_-_, _/_, _^_, _≤_}
 use native.Mathlib.Omega.{arith}
 use borrow.Author.Needs.{needs}
-use lib.ListN.{length, drop, take}
+use lib.ListN.{length, drop}
 use lib.Count.{trailingZeros, trailing-le}
 use Rattle.base_scan.specs.Find.{is, found}
 use Rattle.base_scan.specs.Mask.{mask}
 use Rattle.base_scan.proofs.FindLaws.{seek-end}
-use Rattle.base_scan.proofs.MaskLaws.{passed, hit, mask-tail, tail-none, tail-hit}
+use Rattle.base_scan.proofs.MaskLaws.{window-hit, window-none, mask-tail, tail-none, tail-hit}
 use Rattle.base_scan.proofs.find_many.Statement.{statement}
 use Rattle.base_scan.proofs.find_many.Tie as tie
 
@@ -20,25 +19,18 @@ Inv-loop s at b n last i₀ i = found b at s ≡ found b i s
 abbrev μ-loop : tie.MeasureT-loop
 μ-loop s at b n last i₀ i = length s - i
 
--- a window in the loop: the lowest digit is at most 32, and a mask of 0 is passed
+-- a window in the loop has b, or is passed
 returns : tie.Need-returns Inv-loop μ-loop
 returns c =
-    let m = c .before .mask16 in
     let l = c .before .before .before in
     let a = l .before .before .args in
-    omega (
-      arith,
-      l .loop .inv,
-      ap (trailingZeros 32) (m .ensures .0),
-      hit (a .b) (l .loop .i) 16 (a .s .now) (omega arith) 32 (omega arith) (omega (arith, m .ensures .0)),
-    )
+    window-hit (a .b) (l .loop .i) (a .s .now) (omega arith) (c .before .mask16 .ensures .0) (c .if1 .taken) ∙ sym (l .loop .inv)
 
 loop-again : tie.Need-loop-again Inv-loop μ-loop
 loop-again c =
-    let m = c .before .mask16 in
     let l = c .before .before .before in
     let a = l .before .before .args in
-    l .loop .inv ∙ passed (a .b) (l .loop .i) 16 (a .s .now) (omega arith) (omega (arith, m .ensures .0))
+    l .loop .inv ∙ sym (window-none (a .b) (l .loop .i) (a .s .now) (omega arith) (c .before .mask16 .ensures .0) (c .if1 .left))
 
 -- the last window's digits from i on
 shifted : (c : tie.After-mask162 Inv-loop μ-loop)

@@ -1,9 +1,9 @@
 -- `marks_many`: m is the mask of the bytes before i; the last window is read with its lowest digits shifted out. Assumes nothing.
 use mathlib.Core.Path.{_≡_, refl, sym, ap, _∙_}
-use Prim.Native.Nat.{ℕ, _+_, _-_, _*_, _/_, _^_, _≤_, _<_}
+use Prim.Native.Nat.{_+_, _-_, _*_, _/_, _^_, _≤_}
 use native.Mathlib.Omega.{arith}
 use borrow.Author.Needs.{needs}
-use lib.ListN.{length, take, drop}
+use lib.ListN.{length, take}
 use lib.Seq.{take-all, length-take-le}
 use Rattle.base_scan.specs.Mask.{mask}
 use Rattle.base_scan.proofs.MaskLaws.{mask-more, mask-whole, mask-fits, mask-tail}

@@ -4,7 +4,7 @@ use borrow.Author.Tests.{lt-ltb, le-ltb}
 use mathlib.Core.Path.{sym, _∙_}
 use Rattle.base_buffer.specs.Answer.{unless}
 use Rattle.read_judge.specs.declared.judging.Surveyed.the-variants.{Refused}
-use Rattle.read_judge.proofs.ReadLaws.{Read, read, read-refused}
+use Rattle.read_judge.proofs.ReadLaws.{read, read-refused}
 use Rattle.read_judge.proofs.SurveyLaws.{with-numbers}
 use Rattle.read_judge.proofs.judging.survey.Statement.{statement}
 use Rattle.read_judge.proofs.judging.survey.Tie as tie

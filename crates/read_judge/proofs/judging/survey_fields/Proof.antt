@@ -9,7 +9,7 @@ use Rattle.read_columns.specs.declared.column.Column.the-variants as column
 use Rattle.read_columns.specs.Columns.{column-text}
 use Rattle.read_attributes.specs.Attributes.{attributes, walk}
 use Rattle.read_judge.specs.Inner.Size.{sized}
-use Rattle.read_judge.proofs.ReadLaws.{Read, read}
+use Rattle.read_judge.proofs.ReadLaws.{read}
 use Rattle.read_judge.proofs.SurveyLaws.{attributes-refused, fields-are, size-few}
 use Rattle.read_judge.proofs.judging.survey_fields.Statement.{statement}
 use Rattle.read_judge.proofs.judging.survey_fields.Tie as tie

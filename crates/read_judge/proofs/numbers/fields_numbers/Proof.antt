@@ -5,7 +5,7 @@ use Rattle.read_columns.specs.Columns.{column-text}
 use Rattle.read_attributes.specs.Attributes.{attributes, walk}
 use Rattle.read_judge.specs.declared.judging.NumbersRead.the-variants.{Is, Refused}
 use Rattle.read_judge.specs.Judge.{stuck}
-use Rattle.read_judge.proofs.ReadLaws.{Read, read}
+use Rattle.read_judge.proofs.ReadLaws.{read}
 use Rattle.read_judge.proofs.SurveyLaws.{stuck-refuses, unstuck-answers}
 use Rattle.read_judge.proofs.numbers.fields_numbers.Statement.{statement}
 use Rattle.read_judge.proofs.numbers.fields_numbers.Tie as tie

@@ -1,7 +1,7 @@
 -- `judge_numbers`: the length, the record, and then column 9. Assumes nothing.
 use borrow.Author.Needs.{needs}
 use borrow.Author.Tests.{lt-ltb, le-ltb}
-use mathlib.Core.Path.{_≡_, sym, _∙_}
+use mathlib.Core.Path.{sym, _∙_}
 use mathlib.Core.Bool.{not}
 use mathlib.Core.List.{_∷_}
 use lib.ListN.{length}
@@ -12,7 +12,7 @@ use Rattle.sheet_form.specs.Sheet.{sheet-of}
 use Rattle.read_judge.specs.declared.judging.Judged.the-variants as judge
 use Rattle.read_judge.specs.declared.judging.NumbersRead.the-variants.{Is, Refused}
 use Rattle.read_judge.specs.Judge.{unfolded, numbers-of, field-reasons, numbers-judged}
-use Rattle.read_judge.proofs.ReadLaws.{Read, read, read-refused}
+use Rattle.read_judge.proofs.ReadLaws.{read, read-refused}
 use Rattle.read_judge.proofs.numbers.judge_numbers.Statement.{statement}
 use Rattle.read_judge.proofs.numbers.judge_numbers.Tie as tie
 

@@ -16,7 +16,7 @@ abbrev pub score-in : List ℕ → Bounds → ScoreRead
 score-in s b = score-of (text-at (place-in column.Score b (length s)) s) (place-in column.Score b (length s))
 
 -- columns 4 to 8 of a line that has them
-abbrev pub middle-of : List ℕ → RecordRead
-middle-of s =
+abbrev pub fields-in : List ℕ → RecordRead
+fields-in s =
     together (ends s) (position-of (column-text column.Start s)) (position-of (column-text column.End s)) (score-in s (ends s))
     (strand-of (column-text column.Strand s)) (phase-of (column-text column.Phase s))

@@ -1,4 +1,4 @@
--- `middle_of`: each column is the line's own, and what it answers is what the definition goes on with. Assumes nothing.
+-- `fields_in`: each column is the line's own, and what it answers is what the definition goes on with. Assumes nothing.
 use borrow.Author.Needs.{needs}
 use mathlib.Core.Path.{_≡_, sym, ap, _∙_}
 use mathlib.Core.Logic.{⊎-elim}
@@ -6,7 +6,6 @@ use mathlib.Core.List.{List}
 use Prim.Native.Nat.{ℕ}
 use Rattle.read_tokens.specs.declared.position.PositionRead.the-variants as position
 use Rattle.read_tokens.specs.declared.strand.StrandRead.the-variants as strands
-use Rattle.read_tokens.specs.declared.phase.PhaseRead.the-variants as phases
 use Rattle.read_tokens.specs.Tokens.{position-of, strand-of, phase-of}
 use Rattle.read_columns.specs.declared.bounds.Bounds.{Bounds}
 use Rattle.read_columns.specs.declared.column.Column.the-variants as column
@@ -16,9 +15,9 @@ use Rattle.read_fields.specs.declared.record.RecordRead.the-variants.{Is
 use Rattle.read_fields.specs.declared.record.Score.{Score}
 use Rattle.read_fields.specs.declared.score.ScoreRead.{ScoreRead}
 use Rattle.read_fields.specs.Fields.{with-score, with-strand, with-phase}
-use Rattle.read_fields.specs.Inner.Middle.{score-in, middle-of}
-use Rattle.read_fields.proofs.record.middle_of.Statement.{statement}
-use Rattle.read_fields.proofs.record.middle_of.Tie as tie
+use Rattle.read_fields.specs.Inner.ByBounds.{score-in, fields-in}
+use Rattle.read_fields.proofs.record.fields_in.Statement.{statement}
+use Rattle.read_fields.proofs.record.fields_in.Tie as tie
 
 -- ── where the function began ──────────────────────────────────────────────────────────────────
 
@@ -93,7 +92,7 @@ last-of s start end score =
 so-far : (c : tie.At-match3-came)
     → let e = c .before .before .before in
     let a = e .before .before .before .before .before in
-    let s = from-score (c .before) .args .line .now in middle-of s ≡ last-of s (a .n .given .0 .0) (e .n3 .given .0 .0) (c .match3 .score)
+    let s = from-score (c .before) .args .line .now in fields-in s ≡ last-of s (a .n .given .0 .0) (e .n3 .given .0 .0) (c .match3 .score)
 so-far c =
     let e = c .before .before .before in
     let a = e .before .before .before .before .before in
@@ -125,8 +124,8 @@ returns-6 c =
     (from-phase p .pre)
     ∙ sym (so-far m ∙ rw (strand-is x, phase p ∙ c .before .x2 .given .1))
 
-pub middle-of-spec : {M : Type 1} → statement M
-middle-of-spec =
+pub fields-in-spec : {M : Type 1} → statement M
+fields-in-spec =
     tie.close
     (tie.spec
     (λ c κs. tt)
