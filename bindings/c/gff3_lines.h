@@ -355,13 +355,14 @@ gff3_build_value gff3_build(const uint8_t *text, size_t text_len);
 
 /* ---- percent coding, numbers ---- */
 
-/* A text, percent-decoded. Refusal 22. */
+/* A text, percent-decoded; it is not longer than the text. Refusal 22. */
 gff3_written gff3_decode(const uint8_t *text, size_t text_len, uint8_t *out, size_t out_len);
 
 /* The set of bytes that are escaped: of column 1, of columns 2 and 3, of tags and values in column 9. */
 enum { GFF3_SET_NAME = 1, GFF3_SET_COLUMN = 2, GFF3_SET_ATTRIBUTE = 3 };
 
-/* A text, percent-encoded. A set that does not exist counts as GFF3_SET_NAME, which escapes all that the other two do. Refusals 24, 22. */
+/* A text, percent-encoded, at most three bytes for each. A set that does not exist counts as GFF3_SET_NAME, which escapes all that the other
+ * two do. Refusals 24, 22. */
 gff3_written gff3_encode(uint32_t set, const uint8_t *text, size_t text_len, uint8_t *out, size_t out_len);
 
 /* A position, as columns 4 and 5 have it: 1 to 18446744073709551615. Refusal 2. */
@@ -373,7 +374,8 @@ gff3_number gff3_position(const uint8_t *text, size_t text_len);
  * score (a count of 0: missing), and the count of attributes; then of each attribute its tag, the count of its values, which is not 0,
  * and its values. Nothing follows. All but the score is percent-decoded. Start, end, strand and phase stand beside it as numbers.
  *
- * A line is taken as a record without a look at its kind. `length` is that of the sheet. */
+ * A line is taken as a record without a look at its kind. `length` is that of the sheet, at most ten bytes for each of the line's, and 26:
+ * a buffer of that length needs no second call, and is filled without measuring the sheet first. */
 typedef struct {
     uint64_t refused;
     size_t length;
@@ -391,8 +393,8 @@ gff3_unfolded gff3_unfold(const uint8_t *line, size_t line_len, uint8_t *sheet, 
 
 /* ---- lines written, without a line feed ---- */
 
-/* The line of a sheet and its numbers; no attributes are written as a dot. Refusals 24, 23, 2, 17, 3, 4, 18, 22; 2 for a start or an end of
- * zero, 3 and 4 for a strand or a phase above 3. */
+/* The line of a sheet and its numbers, at most three bytes for each of the sheet's; no attributes are written as a dot. Refusals 24, 23, 2,
+ * 17, 3, 4, 18, 22; 2 for a start or an end of zero, 3 and 4 for a strand or a phase above 3. */
 gff3_written gff3_write_record(const uint8_t *sheet, size_t sheet_len, uint64_t start, uint64_t end, uint32_t strand, uint32_t phase,
                                uint8_t *out, size_t out_len);
 

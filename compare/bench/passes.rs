@@ -296,7 +296,7 @@ fn rewrite(lines: &[&[u8]], sheet: &mut [u8], out: &mut [u8]) -> Sum {
 
 /// The lines that are not refused, and the sum of the records' lengths.
 #[inline(never)]
-fn report(text: &[u8]) -> Sum {
+pub fn report(text: &[u8]) -> Sum {
     let report = ours::report(text);
     (report.records + report.directives + report.comments, report.sum)
 }

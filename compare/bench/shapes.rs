@@ -8,7 +8,7 @@ use oracle::io::api::bench as rust;
 use crate::{
     clock::{Call, Sum, in_turn},
     ours,
-    passes::{split, walk},
+    passes::{report, split, walk},
 };
 
 const ROUNDS: usize = 3;
@@ -39,6 +39,10 @@ const INDEX: Work = Work {
     ours: |text, _| index(text),
     rust: |text| rust::columns(&[text]),
 };
+const REPORT: Work = Work {
+    ours: |text, _| report(text),
+    rust: rust::report,
+};
 /// By the sum of their lengths alone: the Rust counts empty lines, which are left out here.
 const LINES: Work = Work {
     ours: |text, _| (0, split(text).1),
@@ -62,7 +66,10 @@ const fn shape(name: &'static str, work: Work, first: &'static str, repeated: &'
     }
 }
 
-const SHAPES: [Shape; 13] = [
+/// The columns before column 9.
+const FRONT: &str = "s\ts\tg\t1\t9\t.\t.\t.\t";
+
+const SHAPES: [Shape; 15] = [
     shape("fields of a=1;a=1;..", FIELDS, "", "a=1;"),
     shape("fields of a=;a=;..", FIELDS, "", "a=;"),
     shape("field of a===..", FIELDS, "a", "="),
@@ -74,6 +81,8 @@ const SHAPES: [Shape; 13] = [
     shape("decoding %41%41..", DECODING, "", "%41"),
     shape("columns of tabs alone", INDEX, "", "\t"),
     shape("columns behind seven tabs", INDEX, "\t\t\t\t\t\t\t", "a"),
+    shape("report of a line of a=1;a=1;..", REPORT, FRONT, "a=1;"),
+    shape("report of a line of ;;;..", REPORT, FRONT, ";"),
     shape("lines of line feeds alone", LINES, "", "\n"),
     shape("lines of a byte each", LINES, "", "a\n"),
 ];

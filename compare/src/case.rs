@@ -20,17 +20,20 @@ pub enum Slack {
     Over(usize),
     /// So many fewer, or none if it needs no more.
     Short(usize),
+    /// So many for each byte of the texts that it is given, and so many more, or fewer: whatever it needs.
+    Each(usize, isize),
     None,
 }
 
 impl Slack {
     pub const ALL: [Self; 5] = [Self::Full, Self::Over(1), Self::Over(20), Self::Short(1), Self::None];
 
-    pub fn room(self, need: usize) -> usize {
+    pub fn room(self, need: usize, given: usize) -> usize {
         match self {
             Self::Full => need,
             Self::Over(n) => need + n,
             Self::Short(n) => need.saturating_sub(n),
+            Self::Each(n, more) => (n * given).saturating_add_signed(more),
             Self::None => 0,
         }
     }

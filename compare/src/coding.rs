@@ -4,7 +4,7 @@ use oracle::io::api::{coding as rust, record};
 
 use crate::{
     case::{By, Case, Slack, Verdict, same},
-    desk::{Desk, rooms},
+    desk::{Desk, rooms_and},
     numbers, ours,
     report::{Call, Report},
     texts::{self, BYTES, Dice},
@@ -12,6 +12,10 @@ use crate::{
 
 /// The longest text that is encoded; the Rust knows no such limit.
 const LONGEST: usize = 1_048_576;
+
+/// A text is not longer when it is decoded, and at most three times as long when it is encoded.
+const DECODED_AT_ONCE: [Slack; 2] = [Slack::Each(1, 0), Slack::Each(1, -1)];
+const ENCODED_AT_ONCE: [Slack; 2] = [Slack::Each(3, 0), Slack::Each(3, -1)];
 
 /// The three sets, and numbers that count as the first (RULES 16.3).
 const SETS: [usize; 6] = [1, 2, 3, 0, 4, u32::MAX as usize];
@@ -110,7 +114,7 @@ pub fn random(report: &mut Report, dice: &mut Dice) {
 }
 
 fn decoded(report: &mut Report, text: &[u8]) {
-    for &slack in rooms(text.len()) {
+    for slack in rooms_and(text.len(), DECODED_AT_ONCE) {
         report.check(
             Call::Decode,
             Case {
@@ -124,13 +128,9 @@ fn decoded(report: &mut Report, text: &[u8]) {
 
 fn encoded(report: &mut Report, text: &[u8]) {
     for number in SETS {
-        let all = if number < 4 {
-            rooms(text.len())
-        } else {
-            &rooms(text.len())[..1]
-        };
+        let all = if number < 4 { usize::MAX } else { 1 };
 
-        for &slack in all {
+        for slack in rooms_and(text.len(), ENCODED_AT_ONCE).take(all) {
             report.check(
                 Call::Encode,
                 Case {

@@ -153,7 +153,7 @@ impl Desk {
     ) -> Verdict {
         let texts = case.text.len() + case.tag.len() + case.second.len();
         let need = expected.map_or(texts + MORE, <[u8]>::len);
-        let room = case.slack.room(need);
+        let room = case.slack.room(need, texts);
         let written = match expected {
             Err(refused) => Written { refused, length: 0 },
             Ok(_) if room < need => Written {
@@ -219,4 +219,10 @@ impl Desk {
 /// The rooms that a text is written into: all of them for a short one, or some.
 pub fn rooms(len: usize) -> &'static [Slack] {
     if len < 300 { &Slack::ALL } else { &Slack::ALL[..4] }
+}
+
+/// The same, and for a text that is not too long the least room in which the call lays at once, with nothing measured, and one byte less.
+pub fn rooms_and(len: usize, at_once: [Slack; 2]) -> impl Iterator<Item = Slack> {
+    let count = if len < BESIDE { 2 } else { 0 };
+    rooms(len).iter().copied().chain(at_once.into_iter().take(count))
 }

@@ -8,7 +8,7 @@ use oracle::io::api::writing::{self as rust, Fields};
 
 use crate::{
     case::{By, Case, Difference, Slack, Verdict},
-    desk::{Desk, rooms},
+    desk::{Desk, rooms, rooms_and},
     ours,
     report::{Call, Report},
     score,
@@ -19,6 +19,9 @@ use crate::{
 
 /// The longest sheet that is written; the Rust knows no such limit.
 const LONGEST: usize = 1_048_576;
+
+/// A line has at most three bytes for each of its sheet's.
+const AT_ONCE: [Slack; 2] = [Slack::Each(3, 0), Slack::Each(3, -1)];
 
 /// Start, end, strand and phase that are not refused.
 const NUMBERS: [u64; 4] = [8, 13, 1, 3];
@@ -354,7 +357,7 @@ fn case(sheet: &[u8], numbers: [u64; 4]) -> Case<'_> {
 }
 
 fn written_of(report: &mut Report, sheet: &[u8], numbers: [u64; 4]) {
-    for &slack in rooms(sheet.len()) {
+    for slack in rooms_and(sheet.len(), AT_ONCE) {
         report.check(
             Call::WriteRecord,
             Case {

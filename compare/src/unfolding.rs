@@ -7,7 +7,7 @@ use oracle::io::api::{
 
 use crate::{
     case::{By, Case, Slack, Verdict, same},
-    desk::{Desk, rooms},
+    desk::{Desk, rooms_and},
     numbers,
     ours::{self, Unfolded},
     report::{Call, Report},
@@ -18,6 +18,9 @@ use crate::{
 
 /// The longest line that is unfolded; the Rust knows no such limit.
 pub const LONGEST: usize = 4_194_304;
+
+/// A sheet has at most ten bytes for each of its line's, and 26.
+const AT_ONCE: [Slack; 2] = [Slack::Each(10, 26), Slack::Each(10, 25)];
 
 const MARKS: &[u8] = b"\t\t\t.+-?%0123456789eE#=;,=;,";
 
@@ -178,7 +181,7 @@ pub fn random(report: &mut Report, dice: &mut Dice) {
 fn line_of(report: &mut Report, line: &[u8]) {
     report.check(Call::Judge, Case::of(line), judge);
 
-    for &slack in rooms(line.len()) {
+    for slack in rooms_and(line.len(), AT_ONCE) {
         report.check(
             Call::Unfold,
             Case {

@@ -80,8 +80,8 @@ pub fn encode(set: Set, text: &[u8]) -> Result<Vec<u8>, Refusal> {
 /// # Ok::<(), gff3_lines::Refusal>(())
 /// ```
 pub fn encode_into(set: Set, text: &[u8], out: &mut Vec<u8>) -> Result<(), Refusal> {
-    // An escape is two bytes longer than its byte, and 16 are seldom passed.
-    let guess = text.len() + 2 * 16;
+    // At most three bytes for each: with so much room the text is laid at once, and not measured first.
+    let guess = text.len().saturating_mul(3);
     // SAFETY: the text is a slice, and the buffer another.
     append(out, guess, |out| unsafe {
         ffi::gff3_encode(

@@ -117,8 +117,8 @@ impl Sheet {
     pub fn line_into(&self, out: &mut Vec<u8>) -> Result<(), Refusal> {
         let sheet = self.bytes();
         let phase = self.phase.map_or(3, |phase| phase as u32);
-        // The line is seldom longer than the sheet and its numbers.
-        let guess = sheet.len() + 64;
+        // The line has at most three bytes for each of the sheet's: with so much room it is laid at once, and not measured first.
+        let guess = 3 * sheet.len();
         // SAFETY: the sheet is a slice, and the buffer another.
         append(out, guess, |out| unsafe {
             ffi::gff3_write_record(
@@ -200,8 +200,9 @@ pub fn judge(line: &[u8]) -> Result<Judged, Refusal> {
 fn unfold(line: &[u8]) -> Result<(Vec<u8>, ffi::Unfolded), Refusal> {
     let mut sheet = Vec::new();
     let mut unfolded = ffi::Unfolded::default();
-    // The counts of a short attribute are longer than it is, but three times the line is seldom passed.
-    append(&mut sheet, line.len().saturating_mul(3), |out| {
+    // The sheet has at most ten bytes for each of the line's, and 26: with so much room it is laid at once, and not measured first.
+    let guess = line.len().saturating_mul(10).saturating_add(26);
+    append(&mut sheet, guess, |out| {
         // SAFETY: the line is a slice, and the buffer another.
         unfolded = unsafe { ffi::gff3_unfold(line.as_ptr(), line.len(), out.as_mut_ptr().cast(), out.len()) };
         ffi::Written {

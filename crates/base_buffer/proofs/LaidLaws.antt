@@ -8,7 +8,7 @@ use mathlib.Core.List.{List, [], _∷_, _++_}
 use Prim.Native.Nat.{ℕ, suc, _+_, _-_, _≤_, _<_, min}
 use lib.ListN.{length, drop, getD, set, length-append, drop-of-length-le}
 use Rattle.base_lists.proofs.OrderLaws.{le-or-lt}
-use lib.Seq.{sets, sets-eq, length-sets, set-out, drop-cons}
+use lib.Seq.{sets, sets-eq, length-sets, set-out, set-set, set-comm, drop-cons}
 use Rattle.base_buffer.specs.Laid.{laid, Lays}
 
 laid-sets : (text d : List ℕ) (at : ℕ) → laid d at text ≡ sets d at text
@@ -64,6 +64,25 @@ laid-over s d at i e h = go (le-or-lt (length s) i)
     go (inl k) = rw (drop-of-length-le s k)
     go (inr k) = laid-past (drop i s) d (at + i) (omega arith)
 
+-- a byte before a text that is laid may as well be set first
+set-laid : (text d : List ℕ) (at k x : ℕ) → k < at → set (laid d at text) k x ≡ laid (set d k x) at text
+unfolding laid
+set-laid [] d at k x h = refl
+set-laid (y ∷ text) d at k x h =
+    set-laid text (set d at y) (at + 1) k x (omega arith)
+    ∙ ap (λ (d : List ℕ). laid d (at + 1) text) (set-comm d at k y x (λ e. omega arith))
+
+-- a text is laid over another of its length, which stands before a third
+laid-again : (a c b d : List ℕ) (at : ℕ) → length a ≡ length c → laid (laid d at (a ++ b)) at c ≡ laid d at (c ++ b)
+unfolding laid
+laid-again [] [] b d at e = refl
+laid-again [] (y ∷ c) b d at e = absurd (omega arith)
+laid-again (x ∷ a) [] b d at e = absurd (omega arith)
+laid-again (x ∷ a) (y ∷ c) b d at e =
+    ap (λ (d : List ℕ). laid d (at + 1) c)
+    (set-laid (a ++ b) (set d at x) (at + 1) at y (omega arith) ∙ ap (λ (d : List ℕ). laid d (at + 1) (a ++ b)) (set-set d at x y))
+    ∙ laid-again a c b (set d at y) (at + 1) (omega arith)
+
 -- ── what is laid, one text after another ──────────────────────────────────────────────────────
 
 pub lays-length : {text d d' : List ℕ} {at r : ℕ} → Lays text d at d' r → length d' ≡ length d
@@ -92,6 +111,16 @@ module _ {a b d d₁ D : List ℕ} {at r₁ R : ℕ} where
         left = p .left ∙ rw (e, laid-clipped b d₁ (at + length a), laid-append a b d at, q .left);
         end = omega (arith, simp length-append at (p .end));
       }
+
+-- a text whose place is kept by another of its length, until what stands behind it is laid
+pub lays-again : {a b c d d₁ d₂ D : List ℕ} {at r₁ r₂ R : ℕ} → length a ≡ length c → Lays a d at d₁ r₁ → Lays b d₁ r₁ d₂ r₂
+    → Lays c d₂ at D R → Lays (c ++ b) d at D r₂
+lays-again {a} {b} {c} {d} {d₁} {d₂} {D} {at} {r₁} {r₂} {R} e p q again =
+    let both = lays-then p q in
+    record {
+      left = again .left ∙ rw (both .left) (laid-again a c b d at e);
+      end = both .end ∙ simp length-append (rw e);
+    }
 
 -- of `text`, to be laid over d₀ from at₀ on, `rest` is left to lay
 abbrev pub Left : List ℕ → List ℕ → ℕ → List ℕ → List ℕ → ℕ → Type 0

@@ -1,9 +1,9 @@
 // Lays a text over an output buffer that the caller lends, and says what a writer answers of one.
 // In the Rust: `io::Write`.
 //
-// A writer first finds the first reason to refuse, then measures its text, and only then lays it: a refused call changes no byte.
-// Laying takes any place: what would stand past the buffer's end is left out, so no caller has to show that there is room. Proved:
-// the contents of the whole buffer, also behind the text. Assumes nothing.
+// A writer finds the first reason to refuse, makes sure that its text fits, by its length or by a bound on it, and only then lays it: a
+// refused call changes no byte. Laying takes any place: what would stand past the buffer's end is left out, so no caller has to show that
+// there is room. Proved: the contents of the whole buffer, also behind the text. Assumes nothing.
 ghost use mathlib.Core.List.{[], _∷_};
 ghost use Rattle.base_buffer.specs.Laid.{Lays};
 

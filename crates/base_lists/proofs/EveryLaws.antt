@@ -1,12 +1,13 @@
 -- Laws of `Every`. Assumes nothing.
-use Prim.Native.Nat.{ℕ}
+use Prim.Native.Nat.{ℕ, suc, _<_}
 use mathlib.Core.Path.{_≡_, refl, sym, ap, _∙_}
 use mathlib.Core.Logic.{_≢_}
 use mathlib.Core.Bool.{Bool, true, false, _||_, true≢false}
 use mathlib.Core.List.{List, [], _∷_, _++_, map}
 use lib.Dec.{eqb}
+use lib.ListN.{getD}
 use borrow.Author.Tests.{eqb-true}
-use Rattle.base_lists.specs.Bytes.{Every, Lacks, among}
+use Rattle.base_lists.specs.Bytes.{Every, Bytes, Lacks, among}
 
 pub every-append {ℓ} : {A : Type ℓ} (P : A → Type 0) (a b : List A) → Every P a → Every P b → Every P (a ++ b)
 every-append P [] b p q = q
@@ -43,3 +44,8 @@ among-each P (c ∷ l) n h e = go (eqb n c) refl (among-each P l n (h .1)) e
     go : (t : Bool) → eqb n c ≡ t → (among l n ≡ true → P n) → (t || among l n) ≡ true → P n
     go true q rest e = rw (eqb-true n c q) (h .0)
     go false q rest e = rest e
+
+-- a slice of bytes, by its elements
+pub all-bytes : (s : List ℕ) → ((i : ℕ) → getD s i 0 < 256) → Bytes s
+all-bytes [] h = tt
+all-bytes (x ∷ s) h = (h 0, all-bytes s (λ i. h (suc i)))

@@ -1,4 +1,5 @@
 pub mod FindLaws
+pub mod LastLaws
 pub mod MarkLaws
 pub mod MaskLaws
 pub mod PartLaws

@@ -11,7 +11,7 @@ mod place;
 ghost use mathlib.Core.Path.{_≡_};
 ghost use Prim.Native.Nat.{_≤_};
 ghost use lib.ListN.{length};
-ghost use Rattle.base_scan.specs.Find.{found, found-two};
+ghost use Rattle.base_scan.specs.Find.{found, found-two, found-on, found-last};
 pub use mask::marks;
 pub use place::Place;
 pub use place::part;
@@ -140,4 +140,43 @@ pub fn find_two(given: &[u8], at: usize, b: u8, c: u8) -> Two
         first,
         second: near_second(s, first + 1, c),
     }
+}
+
+// The first b from `at` on, where `known` is the first one from some place before on: it is sought again only where it was passed.
+pub fn find_on(s: &[u8], known: usize, at: usize, b: u8) -> usize
+    ensures { λ r. ⌜ r ≡ found-on b known at (now (s .entry)) ⌝ }
+{
+    if known < at {
+        return find(s, at, b);
+    }
+    known
+}
+
+// A place from which on no b stands: one past the last b that a window of 16 bytes has, from the end on, or what is left where none has.
+fn past_last(s: &[u8], b: u8) -> usize
+    ensures { λ r. ⌜ (found b r (now (s .entry)) ≡ length (now (s .entry))) × (r ≤ length (now (s .entry))) ⌝ }
+{
+    let mut i = s.len();
+    while 16 <= i {
+        let m = mask::mask16(s, i - 16, b);
+        if m != 0 {
+            return i - 16 + (32 - u32::leading_zeros(m) as usize);
+        }
+        i -= 16;
+    }
+    i
+}
+
+// The last index where the text has b, or its length where there is none: `find_last(b"a=b=", b'=')` is 3.
+pub fn find_last(s: &[u8], b: u8) -> usize
+    ensures { λ r. ⌜ r ≡ found-last b (now (s .entry)) ⌝ }
+{
+    let mut i = past_last(s, b);
+    while 0 < i {
+        i -= 1;
+        if s[i] == b {
+            return i;
+        }
+    }
+    s.len()
 }

@@ -1,10 +1,10 @@
--- Laws of decoding, of one escape, and of the length of an encoded text. Assumes nothing.
+-- Laws of decoding, of one escape, and of the length of an encoded text; how many bytes are escaped. Assumes nothing.
 use Prim.Native.Nat.{ℕ, suc, _+_, _*_, _/_, _%_, _<_, _≤_}
 use native.Mathlib.Omega.{arith}
 use mathlib.Core.Path.{_≡_, refl, sym, ap, _∙_}
 use mathlib.Core.Logic.{_≢_}
 use mathlib.Core.Bool.{Bool, true, false, cond, _&&_, true≢false}
-use mathlib.Core.List.{List, [], _∷_, _++_}
+use mathlib.Core.List.{List, [], _∷_, _++_, append-nil}
 use lib.Dec.{eqb, ltb}
 use lib.ListN.{length, length-append}
 use borrow.Author.Tests.{ne-eqb, eqb-true, ltb-true}
@@ -42,6 +42,11 @@ decoded-begin [] s h = refl
 decoded-begin (x ∷ t) s h = rw (decoded-plain x (t ++ s) (h .0), decoded-begin t s (h .1))
 
 -- a decoded text is no longer than its text: a law for one byte, and for three
+-- so a text without a percent sign stays as it is
+pub decoded-whole : (s : List ℕ) → Lacks 37 s → decoded s ≡ s
+unfolding decoded
+decoded-whole s h = ap decoded (sym (append-nil s)) ∙ decoded-begin s [] h ∙ append-nil s
+
 pub length-decoded : (s : List ℕ) → length (decoded s) ≤ length s
 unfolding decoded
 length-decoded [] = omega arith
@@ -103,3 +108,51 @@ pub length-encoded : (set : ℕ → Bool) (s : List ℕ) → length (encoded set
 unfolding encoded piece count-escaped
 length-encoded set [] = refl
 length-encoded set (x ∷ s) = simp length-append (omega (arith, length-piece x (set x), length-encoded set s))
+
+-- ── how many bytes are escaped ────────────────────────────────────────────────────────────────
+
+module _ (set : ℕ → Bool) where
+  -- of two texts, one behind the other
+  pub count-append : (a b : List ℕ) → count-escaped set (a ++ b) ≡ count-escaped set a + count-escaped set b
+  unfolding count-escaped
+  count-append [] b = omega arith
+  count-append (x ∷ a) b = omega (arith, count-append a b)
+
+  -- at most all of them
+  count-most : (s : List ℕ) → count-escaped set s ≤ length s
+  unfolding count-escaped
+  count-most [] = omega arith
+  count-most (x ∷ s) = go (set x) (count-most s)
+    where
+      go : (t : Bool) → count-escaped set s ≤ length s → cond t 1 0 + count-escaped set s ≤ suc (length s)
+      go true h = omega arith
+      go false h = omega arith
+
+  -- so an encoded text has at most three bytes for one
+  pub length-encoded-most : (s : List ℕ) → length (encoded set s) ≤ 3 * length s
+  length-encoded-most s = omega (arith, length-encoded set s, count-most s)
+
+  -- a text of which nothing is escaped stays as it is
+  pub encoded-none : (s : List ℕ) → count-escaped set s ≡ 0 → encoded set s ≡ s
+  unfolding encoded piece count-escaped
+  encoded-none [] e = refl
+  encoded-none (x ∷ s) e = go (set x) (encoded-none s) e
+    where
+      go : (t : Bool) → (count-escaped set s ≡ 0 → encoded set s ≡ s) → cond t 1 0 + count-escaped set s ≡ 0
+          → cond t (escape x) (x ∷ []) ++ encoded set s ≡ x ∷ s
+      go true rest e = absurd (omega arith)
+      go false rest e = ap (λ (l : List ℕ). x ∷ l) (rest (omega arith))
+
+  -- a set that holds another escapes no fewer
+  pub count-within : (less : ℕ → Bool) → ((x : ℕ) → less x ≡ true → set x ≡ true) → (s : List ℕ)
+      → count-escaped less s ≤ count-escaped set s
+  unfolding count-escaped
+  count-within less within [] = omega arith
+  count-within less within (x ∷ s) = go (less x) (set x) (within x) (count-within less within s)
+    where
+      go : (t u : Bool) → (t ≡ true → u ≡ true) → count-escaped less s ≤ count-escaped set s
+          → cond t 1 0 + count-escaped less s ≤ cond u 1 0 + count-escaped set s
+      go true true k h = omega arith
+      go true false k h = absurd (true≢false (sym (k refl)))
+      go false true k h = omega arith
+      go false false k h = omega arith

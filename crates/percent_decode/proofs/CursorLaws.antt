@@ -2,38 +2,45 @@
 use Prim.Native.Nat.{ℕ, suc, _+_, _-_, _*_, _≤_, _<_}
 use native.Mathlib.Omega.{arith}
 use mathlib.Core.Path.{_≡_, refl, sym, ap, _∙_}
+use mathlib.Core.Logic.{_≢_}
 use mathlib.Core.Bool.{Bool, true, false, cond, _&&_}
 use mathlib.Core.List.{List, [], _∷_, _++_}
 use lib.Dec.{eqb, ltb}
-use borrow.Author.Tests.{ltb-true}
+use borrow.Author.Tests.{ltb-true, ne-eqb}
 use lib.ListN.{length, take, drop, getD, length-drop, drop-of-length-le, take-append-drop, length-append}
 use lib.Seq.{drop-drop}
 use Rattle.base_lists.proofs.BoolLaws.{and-left, and-right}
 use Rattle.base_lists.proofs.CursorLaws.{cons-at}
 use Rattle.base_scan.specs.Find.{index, is, found}
 use Rattle.base_scan.specs.Part.{part}
-use Rattle.base_scan.proofs.FindLaws.{lacks-before, seek-at, seek-ge, seek-le}
+use Rattle.base_scan.proofs.FindLaws.{lacks-before, seek-at, seek-ge, seek-le, seek-next}
 use Rattle.base_scan.proofs.PartLaws.{part-found, length-part}
 use Rattle.percent_coding.specs.Percent.{hex-value, decoded}
 use Rattle.percent_decode.specs.Inner.Unit.{Hex, Decodes}
 use Rattle.percent_coding.proofs.PercentLaws.{decoded-plain, decoded-begin}
 
--- up to the next percent sign, which is at p, a text stands for itself
-pub decoded-run : (at p : ℕ) (s : List ℕ) → at ≤ length s → p ≡ found 37 at s → decoded (drop at s) ≡ part at p s ++ decoded (drop p s)
-decoded-run at p s h f =
-    let k = index (is 37) (drop at s) in
-    let e : at + k ≡ p = omega (arith, seek-at (is 37) at s h) in
-    ap decoded (sym (take-append-drop k (drop at s)))
-    ∙ decoded-begin (take k (drop at s)) (drop k (drop at s)) (lacks-before 37 (drop at s))
-    ∙ rw (drop-drop, e, f, part-found 37 at s h)
+-- a run: from a byte that is no percent sign up to p, where the next percent sign is, or the end
+module _ (at p : ℕ) (s : List ℕ) (inside : at < length s) (plain : getD s at 0 ≢ 37) (f : p ≡ found 37 (at + 1) s) where
+  -- it has a byte
+  pub run-further : at < p
+  run-further = omega (arith, seek-ge (is 37) (at + 1) s (omega arith))
 
--- and is as long
-pub length-run : (at p : ℕ) (s : List ℕ) → at ≤ length s → p ≡ found 37 at s
-    → (at ≤ p) × (length (decoded (drop at s)) + at ≡ p + length (decoded (drop p s)))
-length-run at p s h f =
-    let g : at ≤ p = omega (arith, seek-ge (is 37) at s h) in
-    let l = length-part at p s (omega (arith, seek-le (is 37) at s)) in
-    (g, rw (decoded-run at p s h f, length-append) (omega arith))
+  -- it stands for itself
+  pub decoded-run : decoded (drop at s) ≡ part at p s ++ decoded (drop p s)
+  decoded-run =
+      let k = index (is 37) (drop at s) in
+      let g : p ≡ found 37 at s = f ∙ sym (seek-next (is 37) at s inside (ne-eqb _ 37 plain)) in
+      let h : at ≤ length s = omega arith in
+      let e : at + k ≡ p = omega (arith, seek-at (is 37) at s h) in
+      ap decoded (sym (take-append-drop k (drop at s)))
+      ∙ decoded-begin (take k (drop at s)) (drop k (drop at s)) (lacks-before 37 (drop at s))
+      ∙ rw (drop-drop, e, g, part-found 37 at s h)
+
+  -- and is as long
+  pub length-run : (at < p) × (length (decoded (drop at s)) + at ≡ p + length (decoded (drop p s)))
+  length-run =
+      let l = length-part at p s (omega (arith, seek-le (is 37) (at + 1) s)) in
+      (run-further, rw (decoded-run, length-append) (omega (arith, run-further)))
 
 pub decoded-end : (s : List ℕ) (i : ℕ) → length s ≤ i → decoded (drop i s) ≡ []
 unfolding decoded
@@ -81,7 +88,7 @@ decoded-short s i h l =
     rw (cons-at s i (i + 1) h (omega arith)) (decoded-few (getD s i 0) (drop (i + 1) s) (simp length-drop (omega arith)))
 
 -- no percent sign
-pub decoded-other : (s : List ℕ) (i : ℕ) → i < length s → (getD s i 0 ≡ 37 → ⊥) → decoded (drop i s) ≡ getD s i 0 ∷ decoded (drop (i + 1) s)
+pub decoded-other : (s : List ℕ) (i : ℕ) → i < length s → getD s i 0 ≢ 37 → decoded (drop i s) ≡ getD s i 0 ∷ decoded (drop (i + 1) s)
 decoded-other s i h n = rw (cons-at s i (i + 1) h (omega arith)) (decoded-plain (getD s i 0) (drop (i + 1) s) n)
 
 -- a byte that stands for itself

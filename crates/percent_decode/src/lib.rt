@@ -51,20 +51,22 @@ fn decode_at(s: &[u8], i: usize) -> Unit
     kept
 }
 
-// How long the text is when decoded. Runs without a percent sign count as they are.
+// How long the text is when decoded. Runs without a percent sign count as they are. The next percent sign is sought only where a run
+// begins: a search before each of many escapes that stand side by side would take longer than decoding them.
 pub fn decoded_len(s: &[u8]) -> usize
     ensures { λ r. ⌜ (r ≡ length (decoded (now (s .entry)))) × (r ≤ length (now (s .entry))) ⌝ }
 {
     let mut n: usize = 0;
     let mut i = 0;
     while i < s.len() {
-        let sign = base_scan::find(s, i, b'%');
-        n += sign - i;
-        if sign == s.len() {
-            return n;
+        if s[i] == b'%' {
+            i = decode_at(s, i).next;
+            n += 1;
+        } else {
+            let sign = base_scan::find(s, i + 1, b'%');
+            n += sign - i;
+            i = sign;
         }
-        i = decode_at(s, sign).next;
-        n += 1;
     }
     n
 }
@@ -89,28 +91,34 @@ pub fn decodes_to(s: &[u8], plain: &[u8]) -> bool
     j == plain.len()
 }
 
-// Lays the decoded text over a buffer from `at` on: runs without a percent sign are copied.
+// Lays the decoded text over a buffer from `at` on: runs without a percent sign, found as in `decoded_len`, are copied.
 pub fn lay_decoded(s: &[u8], out: &mut [u8], at: usize) -> usize
     ensures { λ r. ⌜ Lays (decoded (now (s .entry))) (now (out .entry)) at (now (out .exit)) r ⌝ }
 {
-    let mut to = at;
+    let mut to = base_numbers::least(at, out.len());
     let mut i = 0;
-    loop {
-        let sign = base_scan::find(s, i, b'%');
-        to = base_buffer::lay(base_scan::part(s, i, sign), out, to);
-        if sign == s.len() {
-            return to;
+    while i < s.len() {
+        if s[i] == b'%' {
+            let unit = decode_at(s, i);
+            to = base_buffer::lay_byte(unit.byte, out, to);
+            i = unit.next;
+        } else {
+            let sign = base_scan::find(s, i + 1, b'%');
+            to = base_buffer::lay(base_scan::part(s, i, sign), out, to);
+            i = sign;
         }
-        let unit = decode_at(s, sign);
-        to = base_buffer::lay_byte(unit.byte, out, to);
-        i = unit.next;
     }
+    to
 }
 
-// Writes the decoded text at the start of a buffer; refusal 22, with the length needed, where it does not fit.
+// Writes the decoded text at the start of a buffer; refusal 22, with the length needed, where it does not fit. Decoding makes no text
+// longer, so where the text itself would fit the decoded one is laid without being measured first.
 pub fn decode(s: &[u8], out: &mut [u8]) -> Written
     ensures { λ r. ⌜ Wrote [] (decoded (now (s .entry))) (now (out .entry)) (now (out .exit)) r ⌝ }
 {
+    if s.len() <= out.len() {
+        return Written::Done(lay_decoded(s, out, 0));
+    }
     let need = decoded_len(s);
     if out.len() < need {
         return Written::NoRoom(need);

@@ -1,2 +1,3 @@
 mod CursorLaws
+mod PlainLaws
 mod Unique

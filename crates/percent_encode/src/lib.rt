@@ -5,6 +5,8 @@
 //
 // Proved: what is encoded is the definition of `percent_coding` over the set, byte by byte; one proof serves the three sets. Assumes
 // nothing.
+mod plain;
+
 use base_buffer::Written;
 use percent_sets::Set;
 ghost use mathlib.Core.Path.{_≡_};
@@ -58,8 +60,8 @@ fn lay_piece(table: &[u8; 256], set: Set, b: u8, out: &mut [u8], at: usize) -> u
     }
 }
 
-// Lays the encoded text over a buffer from `at` on.
-pub fn lay_encoded(set: Set, s: &[u8], out: &mut [u8], at: usize) -> usize
+// Byte by byte: for a text of which something may be escaped.
+fn lay_pieces(set: Set, s: &[u8], out: &mut [u8], at: usize) -> usize
     ensures { λ r. ⌜ Lays (encoded (escapes set) (now (s .entry))) (now (out .entry)) at (now (out .exit)) r ⌝ }
 {
     let table = percent_sets::classes();
@@ -72,14 +74,27 @@ pub fn lay_encoded(set: Set, s: &[u8], out: &mut [u8], at: usize) -> usize
     to
 }
 
+// Lays the encoded text over a buffer from `at` on: a copy, where nothing is escaped.
+pub fn lay_encoded(set: Set, s: &[u8], out: &mut [u8], at: usize) -> usize
+    ensures { λ r. ⌜ Lays (encoded (escapes set) (now (s .entry))) (now (out .entry)) at (now (out .exit)) r ⌝ }
+{
+    if plain::stays(set, s) {
+        return base_buffer::lay(s, out, at);
+    }
+    lay_pieces(set, s, out, at)
+}
+
 // Writes the encoded text at the start of a buffer. Refusals, in order: 24, the text is over 1,048,576 bytes; 22, with the length
-// needed, where it does not fit.
+// needed, where it does not fit. Where three bytes for each fit, any text does, and nothing is measured.
 pub fn encode(set: Set, s: &[u8], out: &mut [u8]) -> Written
     ensures { λ r. ⌜ Wrote (encode-reasons (now (s .entry)))
         (encoded (escapes set) (now (s .entry))) (now (out .entry)) (now (out .exit)) r ⌝ }
 {
     if base_buffer::MOST_TEXT < s.len() {
         return Written::Refused(24);
+    }
+    if 3 * s.len() <= out.len() {
+        return Written::Done(lay_encoded(set, s, out, 0));
     }
     let need = s.len() + 2 * count_escaped(set, s);
     if out.len() < need {

@@ -28,6 +28,8 @@ blocks =
     record {
       find = first (λ _ (given, _) left r. r ≤ length (now given)) (λ M. base-scan.find.Met.met);
       find-two = first (λ _ (given, _) left r. (r .first ≤ length (now given)) × (r .second ≤ length (now given))) (λ M. base-scan.find_two.Met.met);
+      find-on = told (λ M. base-scan.find_on.Met.met);
+      find-last = told (λ M. base-scan.find_last.Met.met);
       marks = told (λ M. base-scan.marks.Met.met);
       part = told (λ M. base-scan.part.Met.met);
       text = told (λ M. base-scan.text.Met.met);

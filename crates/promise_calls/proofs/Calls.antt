@@ -83,11 +83,13 @@ calls =
       parse-genome-build = told (λ M. read-directives.parse_genome_build.Met.met);
       write-decimal = record { does = λ M. write-decimals.write_decimal.Met.met; one = wrote-one };
       measure = told (λ M. write-measure.measure.Met.met);
+      refusal = told (λ M. write-measure.refusal.Met.met);
       write-record = record { does = λ M. write-record.write_record.Met.met; one = wrote-one };
       write-directive = record { does = λ M. write-directive.write_directive.Met.met; one = wrote-one };
       write-comment = record { does = λ M. write-comment.write_comment.Met.met; one = wrote-one };
       judge = told (λ M. read-judge.judge.Met.met);
       judge-numbers = told (λ M. read-judge.judge_numbers.Met.met);
+      admit = told (λ M. read-judge.admit.Met.met);
       survey = told (λ M. read-judge.survey.Met.met);
       «unfold» = record { does = λ M. read-record.unfold.Met.met; one = unfolds-one };
       verdict-of = told (λ M. read-verdict.verdict_of.Met.met);

@@ -8,7 +8,12 @@ use Rattle.c_directives.proofs as c-directives
 use Rattle.c_index.proofs as c-index
 use Rattle.c_columns.proofs as c-columns
 use Rattle.c_record.proofs as c-record
-use Rattle.c_fields.proofs as c-fields
+use Rattle.c_start.proofs as c-start
+use Rattle.c_end.proofs as c-end
+use Rattle.c_score.proofs as c-score
+use Rattle.c_strand.proofs as c-strand
+use Rattle.c_phase.proofs as c-phase
+use Rattle.c_text.proofs as c-text
 use Rattle.c_attributes.proofs as c-attributes
 use Rattle.c_lookup.proofs as c-lookup
 use Rattle.c_coding.proofs as c-coding
@@ -30,13 +35,13 @@ in-c =
       gff3-index = told (λ M. c-index.gff3_index.Met.met);
       gff3-column = told (λ M. c-columns.gff3_column.Met.met);
       gff3-record = told (λ M. c-record.gff3_record.Met.met);
-      gff3-text = record { does = λ M. c-fields.gff3_text.Met.met; one = c-wrote-one };
+      gff3-text = record { does = λ M. c-text.gff3_text.Met.met; one = c-wrote-one };
       gff3-position = told (λ M. c-coding.gff3_position.Met.met);
-      gff3-start = told (λ M. c-fields.gff3_start.Met.met);
-      gff3-end = told (λ M. c-fields.gff3_end.Met.met);
-      gff3-score = told (λ M. c-fields.gff3_score.Met.met);
-      gff3-strand = told (λ M. c-fields.gff3_strand.Met.met);
-      gff3-phase = told (λ M. c-fields.gff3_phase.Met.met);
+      gff3-start = told (λ M. c-start.gff3_start.Met.met);
+      gff3-end = told (λ M. c-end.gff3_end.Met.met);
+      gff3-score = told (λ M. c-score.gff3_score.Met.met);
+      gff3-strand = told (λ M. c-strand.gff3_strand.Met.met);
+      gff3-phase = told (λ M. c-phase.gff3_phase.Met.met);
       gff3-no-attributes = told (λ M. c-attributes.gff3_no_attributes.Met.met);
       gff3-next-field = told (λ M. c-attributes.gff3_next_field.Met.met);
       gff3-next-value = told (λ M. c-attributes.gff3_next_value.Met.met);

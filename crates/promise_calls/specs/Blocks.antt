@@ -5,7 +5,7 @@ use mathlib.Core.Bool.{cond}
 use lib.ListN.{length, take}
 use Prim.Native.Nat.{min, _-_, _^_}
 use denote.Ref.{now}
-use Rattle.base_scan.specs.Find.{found, found-two}
+use Rattle.base_scan.specs.Find.{found, found-two, found-on, found-last}
 use Rattle.base_scan.specs.Mask.{mask}
 use Rattle.base_scan.specs.Part.{part, text-at}
 use Rattle.base_words.specs.Same.{same, is-dot}
@@ -49,6 +49,10 @@ pub record Blocks : Type 2 where
       (λ _ (given, (at, (b, _))). found b at (now given))
   pub find-two : Gives base-scan.find_two.ended base-scan.find_two.Symbol.routine
       (λ _ (given, (at, (b, (c, _)))). found-two b c at (now given))
+  pub find-on : Gives base-scan.find_on.ended base-scan.find_on.Symbol.routine
+      (λ _ (s, (known, (at, (b, _)))). found-on b known at (now s))
+  pub find-last : Gives base-scan.find_last.ended base-scan.find_last.Symbol.routine
+      (λ _ (s, (b, _)). found-last b (now s))
   pub marks : Gives base-scan.marks.ended base-scan.marks.Symbol.routine
       (λ _ (given, (b, _)). mask b (take 64 (now given)))
   pub part : Shows base-scan.part.ended base-scan.part.Symbol.routine (λ _ r. now r)

@@ -4,7 +4,7 @@
 -- the first λ says which argument it is. Assumes nothing: these are definitions.
 use mathlib.Core.List.{[]}
 use denote.Ref.{now}
-use Rattle.base_buffer.specs.Answer.{Wrote}
+use Rattle.base_buffer.specs.Answer.{refusal-of, Wrote}
 use Rattle.write_decimals.specs.Decimal.{decimal}
 use Rattle.percent_coding.specs.Percent.{decoded, encoded}
 use Rattle.percent_sets.specs.Sets.{escapes}
@@ -26,7 +26,7 @@ use Rattle.read_version.specs.GffVersion.{version-of}
 use Rattle.read_directives.specs.GenomeBuild.{build-of}
 use Rattle.read_directives.specs.SequenceRegion.{region-of}
 use Rattle.read_judge.specs.Judge.{judged, numbers-judged}
-use Rattle.read_judge.specs.Survey.{surveyed}
+use Rattle.read_judge.specs.Survey.{admitted, surveyed}
 use Rattle.read_record.specs.Unfold.{Unfolds}
 use Rattle.read_verdict.specs.Verdict.{verdict}
 use Rattle.read_report.specs.Report.{morning}
@@ -151,6 +151,8 @@ pub record Calls : Type 2 where
       (λ _ (n, (out, _)). Wrote [] (decimal n) (now out))
   pub measure : Gives write-measure.measure.ended write-measure.measure.Symbol.routine
       (λ _ (sheet, (start, (end, (strand, (phase, _))))). measured (now sheet) start end strand phase)
+  pub refusal : Gives write-measure.refusal.ended write-measure.refusal.Symbol.routine
+      (λ _ (sheet, (start, (end, (strand, (phase, _))))). refusal-of (record-reasons (now sheet) start end strand phase))
   pub write-record : Fills write-record.write_record.ended write-record.write_record.Symbol.routine
       (λ _ (_, (_, (_, (_, (_, (out, _)))))). now out)
       (λ _ (sheet, (start, (end, (strand, (phase, (out, _)))))). Wrote (record-reasons (now sheet) start end strand phase)
@@ -166,6 +168,8 @@ pub record Calls : Type 2 where
       (λ _ (line, _). judged (now line))
   pub judge-numbers : Gives read-judge.judge_numbers.ended read-judge.judge_numbers.Symbol.routine
       (λ _ (line, _). numbers-judged (judged (now line)))
+  pub admit : Gives read-judge.admit.ended read-judge.admit.Symbol.routine
+      (λ _ (line, _). admitted (now line))
   pub survey : Gives read-judge.survey.ended read-judge.survey.Symbol.routine
       (λ _ (line, _). surveyed (now line))
   pub «unfold» : Fills read-record.unfold.ended read-record.unfold.Symbol.routine (λ _ (_, (out, _)). now out)

@@ -28,7 +28,10 @@ use Rattle.c_directives.specs.Directive.{c-version, c-region, c-build}
 use Rattle.c_index.specs.Index.{c-indexed}
 use Rattle.c_columns.specs.Columns.{column-of-c, c-column-at, c-place}
 use Rattle.c_record.specs.Record.{c-record}
-use Rattle.c_fields.specs.Fields.{text-column-of-c, c-text-reasons, c-text, c-score, c-strand, c-phase}
+use Rattle.c_score.specs.Score.{c-score}
+use Rattle.c_strand.specs.Strand.{c-strand}
+use Rattle.c_phase.specs.Phase.{c-phase}
+use Rattle.c_text.specs.Text.{text-column-of-c, c-text-reasons, c-text}
 use Rattle.c_attributes.specs.Attribute.{c-next-field, c-next-value}
 use Rattle.c_lookup.specs.Lookup.{c-found}
 use Rattle.c_coding.specs.Coding.{set-of-c}
@@ -41,7 +44,12 @@ use Rattle.c_directives.proofs as c-directives
 use Rattle.c_index.proofs as c-index
 use Rattle.c_columns.proofs as c-columns
 use Rattle.c_record.proofs as c-record
-use Rattle.c_fields.proofs as c-fields
+use Rattle.c_start.proofs as c-start
+use Rattle.c_end.proofs as c-end
+use Rattle.c_score.proofs as c-score
+use Rattle.c_strand.proofs as c-strand
+use Rattle.c_phase.proofs as c-phase
+use Rattle.c_text.proofs as c-text
 use Rattle.c_attributes.proofs as c-attributes
 use Rattle.c_lookup.proofs as c-lookup
 use Rattle.c_coding.proofs as c-coding
@@ -71,20 +79,20 @@ pub record InC : Type 2 where
       (λ _ (line, (bounds, (column, _))). c-place (c-column-at (column-of-c column) (now line) (bounds-of-c bounds)))
   pub gff3-record : Gives c-record.gff3_record.ended c-record.gff3_record.Symbol.routine
       (λ _ (line, _). c-record (record-of (now line)))
-  pub gff3-text : Fills c-fields.gff3_text.ended c-fields.gff3_text.Symbol.routine (λ _ (_, (_, (_, (out, _)))). now out)
+  pub gff3-text : Fills c-text.gff3_text.ended c-text.gff3_text.Symbol.routine (λ _ (_, (_, (_, (out, _)))). now out)
       (λ _ (line, (bounds, (column, (out, _)))). CWrote (c-text-reasons (text-column-of-c column) (now line) (bounds-of-c bounds))
       (c-text (text-column-of-c column) (now line)) (now out))
   pub gff3-position : Gives c-coding.gff3_position.ended c-coding.gff3_position.Symbol.routine
       (λ _ (text, _). c-position (position-of (now text)))
-  pub gff3-start : Gives c-fields.gff3_start.ended c-fields.gff3_start.Symbol.routine
+  pub gff3-start : Gives c-start.gff3_start.ended c-start.gff3_start.Symbol.routine
       (λ _ (line, (bounds, _)). c-position (position-at column.Start (now line) (bounds-of-c bounds)))
-  pub gff3-end : Gives c-fields.gff3_end.ended c-fields.gff3_end.Symbol.routine
+  pub gff3-end : Gives c-end.gff3_end.ended c-end.gff3_end.Symbol.routine
       (λ _ (line, (bounds, _)). c-position (position-at column.End (now line) (bounds-of-c bounds)))
-  pub gff3-score : Gives c-fields.gff3_score.ended c-fields.gff3_score.Symbol.routine
+  pub gff3-score : Gives c-score.gff3_score.ended c-score.gff3_score.Symbol.routine
       (λ _ (line, (bounds, _)). c-score (score-at (now line) (bounds-of-c bounds)))
-  pub gff3-strand : Gives c-fields.gff3_strand.ended c-fields.gff3_strand.Symbol.routine
+  pub gff3-strand : Gives c-strand.gff3_strand.ended c-strand.gff3_strand.Symbol.routine
       (λ _ (line, (bounds, _)). c-strand (strand-at (now line) (bounds-of-c bounds)))
-  pub gff3-phase : Gives c-fields.gff3_phase.ended c-fields.gff3_phase.Symbol.routine
+  pub gff3-phase : Gives c-phase.gff3_phase.ended c-phase.gff3_phase.Symbol.routine
       (λ _ (line, (bounds, _)). c-phase (phase-at (now line) (bounds-of-c bounds)))
   -- RULES 5: column 9
   pub gff3-no-attributes : Gives c-attributes.gff3_no_attributes.ended c-attributes.gff3_no_attributes.Symbol.routine

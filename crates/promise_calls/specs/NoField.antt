@@ -17,7 +17,9 @@ use Rattle.c_directives.specs.Directive.{c-version, c-region, c-build}
 use Rattle.c_index.specs.Index.{c-indexed}
 use Rattle.c_columns.specs.Columns.{c-place}
 use Rattle.c_record.specs.Record.{c-record}
-use Rattle.c_fields.specs.Fields.{c-score, c-strand, c-phase}
+use Rattle.c_score.specs.Score.{c-score}
+use Rattle.c_strand.specs.Strand.{c-strand}
+use Rattle.c_phase.specs.Phase.{c-phase}
 use Rattle.c_attributes.specs.Attribute.{c-field, c-value}
 use Rattle.c_lookup.specs.Lookup.{c-found}
 use Rattle.c_unfold.specs.Sheet.{c-judged, c-unfolded}

@@ -1,12 +1,9 @@
 -- What the types of a writer's parameters say of an item. Assumes nothing.
-use Prim.Native.Nat.{ℕ, suc, _<_}
 use native.Mathlib.Omega.{arith}
-use mathlib.Core.List.{List, [], _∷_}
-use lib.ListN.{getD}
+use mathlib.Core.List.{List}
 use mir.Val.{Val}
 use denote.Laws.{Is}
 use denote.Enum.Declared.{row}
-use Rattle.base_lists.specs.Bytes.{Bytes}
 use Rattle.read_version.specs.declared.Part.{Part}
 use Rattle.read_version.specs.declared.Part.the-variants as part
 use Rattle.read_version.proofs.Part as part-type
@@ -14,11 +11,6 @@ use Rattle.write_directive.specs.declared.directive.Value.{Value}
 use Rattle.write_directive.specs.declared.directive.Value.the-variants.{None, Text, Version, Region, Build}
 use Rattle.write_directive.specs.Reading.{Within, Sized}
 use Rattle.write_directive.proofs.directive.Value as value-type
-
--- a slice of bytes, by its elements
-pub all-bytes : (s : List ℕ) → ((i : ℕ) → getD s i 0 < 256) → Bytes s
-all-bytes [] h = tt
-all-bytes (x ∷ s) h = (h 0, all-bytes s (λ i. h (suc i)))
 
 -- a value, by the machine's values vs that stand for it: each of its numbers has its own, which fits its bits
 within : (p : Part) (vs : List Val) → Is (row part-type.the-type) p vs → Within p

@@ -1,9 +1,9 @@
 -- The attributes of column 9 on the sheet, from a cursor on. Assumes nothing.
 use Prim.Native.Nat.{ℕ, zero, suc, _+_, _-_, _*_, _≤_, _<_}
 use native.Mathlib.Omega.{arith}
-use mathlib.Core.Path.{_≡_, refl, ap₂}
+use mathlib.Core.Path.{_≡_, refl, ap}
 use mathlib.Core.Bool.{true, false, true≢false}
-use mathlib.Core.List.{List, [], _++_, flatMap}
+use mathlib.Core.List.{List, [], _∷_, flatMap}
 use mathlib.Core.Option.{Option, none, some}
 use lib.ListN.{length, length-append}
 use Rattle.base_scan.specs.Part.{text-at}
@@ -16,11 +16,8 @@ use Rattle.read_attributes.proofs.WalkLaws.{Hands, Meets, field-meets, walk-cli
 use Rattle.percent_coding.specs.Percent.{decoded}
 use Rattle.percent_coding.proofs.PercentLaws.{length-decoded}
 use Rattle.sheet_form.specs.Sheet.{section-of, counted-of, attribute-of}
-use Rattle.sheet_form.proofs.LengthLaws.{length-section}
-use Rattle.read_judge.specs.declared.judging.Size.{Size}
-use Rattle.read_judge.specs.declared.judging.Size.the-variants.{Is, Refused}
+use Rattle.sheet_form.proofs.LengthLaws.{length-section, length-counted}
 use Rattle.read_judge.specs.Judge.{got, stuck}
-use Rattle.read_judge.specs.Inner.Size.{sized}
 use Rattle.read_judge.proofs.ValuesLaws.{values-bound}
 
 -- an attribute is its tag and its values
@@ -29,80 +26,49 @@ pub length-parts : (tag value : List ℕ)
 unfolding attribute attribute-of
 length-parts tag value = simp (length-append, length-section) (omega arith)
 
--- ── counted ───────────────────────────────────────────────────────────────────────────────────
+-- so where both texts stand for themselves, and there is one value
+pub length-plain : (tag value : List ℕ) → decoded tag ≡ tag → values value ≡ value ∷ []
+    → length (attribute-of (attribute tag value)) ≡ 12 + length tag + length value
+unfolding flatMap
+length-plain tag value e k =
+    omega (
+      arith,
+      length-parts tag value,
+      ap length e,
+      ap (λ (vs : List (List ℕ)). length (counted-of section-of vs)) k,
+      length-counted section-of (value ∷ []),
+      length-append (section-of value) [],
+      length-section value,
+    )
 
--- k attributes of n bytes, and those that are still to come
-abbrev pub onto : ℕ → ℕ → Option (List Attribute) → Size
-onto k n none = Refused
-onto k n (some l) = Is (k + length l) (n + length (flatMap attribute-of l))
-
-pub onto-start : (o : Option (List Attribute)) → sized o ≡ onto 0 0 o
-onto-start none = refl
-onto-start (some l) = ap₂ Is (omega arith) (omega arith)
-
-pub onto-next : {s : List ℕ} {at : ℕ} {field : Field} (k n : ℕ) → Hands s at field
-    → onto k n (attributes (walk-from s at))
-    ≡ onto (k + 1) (n + length (attribute-of (attribute (text-at (field .tag) s) (text-at (field .value) s)))) (attributes
-    (walk-from s (field .next)))
-unfolding attributes flatMap
-onto-next {s} {at} {field} k n h =
-    rw (h .met) (go (attribute (text-at (field .tag) s) (text-at (field .value) s)) (attributes (walk-from s (field .next))))
-  where
-    go : (a : Attribute) (o : Option (List Attribute)) → onto k n (and-before a o) ≡ onto (k + 1) (n + length (attribute-of a)) o
-    go a none = refl
-    go a (some l) = ap₂ Is (omega arith) (simp length-append (omega arith))
-
-pub onto-done : (k n : ℕ) → onto k n (attributes done) ≡ Is k n
-unfolding attributes flatMap
-onto-done k n = ap₂ Is (omega arith) (omega arith)
-
-pub onto-refused : (k n : ℕ) → onto k n (attributes refused) ≡ Refused
-unfolding attributes
-onto-refused k n = refl
-
--- ── laid ──────────────────────────────────────────────────────────────────────────────────────
+-- ── from a cursor on ───────────────────────────────────────────────────────────────────────────
 
 -- the attributes that are still to come, where the walk is not refused
 abbrev pub rest : Walk → List ℕ
 rest w = flatMap attribute-of (got (attributes w))
 
 -- the next one, and those behind it
-pub rest-next : {s : List ℕ} {at : ℕ} {field : Field} → Hands s at field → stuck (attributes (walk-from s at)) ≡ false
+pub got-next : {s : List ℕ} {at : ℕ} {field : Field} → Hands s at field → stuck (attributes (walk-from s at)) ≡ false
     → (stuck (attributes (walk-from s (field .next))) ≡ false)
-    × (rest (walk-from s at) ≡ attribute-of (attribute (text-at (field .tag) s) (text-at (field .value) s)) ++ rest (walk-from s
-    (field .next)))
-unfolding attributes flatMap
-rest-next {s} {at} {field} h e =
+    × (got (attributes (walk-from s at)) ≡ attribute (text-at (field .tag) s) (text-at (field .value) s) ∷ got (attributes (walk-from s
+    (field .next))))
+unfolding attributes
+got-next {s} {at} {field} h e =
     rw (h .met) (go (attribute (text-at (field .tag) s) (text-at (field .value) s)) (attributes (walk-from s (field .next)))
     (rw (h .met) at e))
   where
     go : (a : Attribute) (o : Option (List Attribute)) → stuck (and-before a o) ≡ false
-        → (stuck o ≡ false) × (flatMap attribute-of (got (and-before a o)) ≡ attribute-of a ++ flatMap attribute-of (got o))
+        → (stuck o ≡ false) × (got (and-before a o) ≡ a ∷ got o)
     go a none e = absurd (true≢false e)
     go a (some l) e = (refl, refl)
 
-pub rest-done : rest done ≡ []
-unfolding attributes flatMap
-rest-done = refl
+pub got-done : got (attributes done) ≡ []
+unfolding attributes
+got-done = refl
 
 pub refused-stuck : stuck (attributes refused) ≡ true
 unfolding attributes
 refused-stuck = refl
-
-pub done-unstuck : stuck (attributes done) ≡ false
-unfolding attributes
-done-unstuck = refl
-
--- a walk is stuck where the rest of it is
-pub stuck-next : {s : List ℕ} {at : ℕ} {field : Field} → Hands s at field
-    → stuck (attributes (walk-from s at)) ≡ stuck (attributes (walk-from s (field .next)))
-unfolding attributes
-stuck-next {s} {at} {field} h =
-    rw (h .met) (go (attribute (text-at (field .tag) s) (text-at (field .value) s)) (attributes (walk-from s (field .next))))
-  where
-    go : (a : Attribute) (o : Option (List Attribute)) → stuck (and-before a o) ≡ stuck o
-    go a none = refl
-    go a (some l) = refl
 
 -- ── bounds ────────────────────────────────────────────────────────────────────────────────────
 

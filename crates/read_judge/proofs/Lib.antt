@@ -1,7 +1,9 @@
 pub mod AttributesLaws
 pub mod JudgeLaws
-pub mod SurveyLaws
-pub mod ValuesLaws
+pub mod PlainLaws
 mod ReadLaws
 mod Samples
+mod StuckLaws
+pub mod SurveyLaws
 mod Unique
+pub mod ValuesLaws

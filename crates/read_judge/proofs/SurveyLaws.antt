@@ -2,12 +2,13 @@
 use Prim.Native.Nat.{ℕ, _+_, _*_, _≤_}
 use native.Mathlib.Omega.{arith}
 use borrow.Author.Needs.{needs}
+use borrow.Author.Tests.{ltb-false}
 use mathlib.Core.Path.{_≡_, refl, sym, _∙_}
 use mathlib.Core.Logic.{_≢_}
 use mathlib.Core.Bool.{Bool, true, false, cond}
-use mathlib.Core.List.{List, [], flatMap}
-use mathlib.Core.Option.{Option, none, some}
+use mathlib.Core.List.{List, []}
 use lib.ListN.{length}
+use Rattle.base_lists.specs.Limits.{most-line}
 use Rattle.base_words.specs.Same.{is-dot}
 use Rattle.base_buffer.specs.Answer.{refusal-of, unless}
 use Rattle.base_buffer.proofs.AnswerLaws.{Numbered, none-of, unless-append, unless-map, unless-is, unless-not}
@@ -17,21 +18,22 @@ use Rattle.read_columns.specs.declared.column.Column.the-variants as column
 use Rattle.read_columns.specs.Columns.{ends, column-place, column-text}
 use Rattle.read_columns.proofs.ColumnsLaws.{text-short}
 use Rattle.percent_coding.proofs.PercentLaws.{length-decoded}
-use Rattle.read_attributes.specs.Attributes.{Attribute, attributes, walk}
-use Rattle.sheet_form.specs.Sheet.{attribute-of, sheet-of}
+use Rattle.read_attributes.specs.Attributes.{attributes, walk}
+use Rattle.sheet_form.specs.Sheet.{sheet-of}
 use Rattle.sheet_form.proofs.LengthLaws.{length-sheet}
+use Rattle.read_judge.specs.declared.admitting.Admitted.{Admitted}
+use Rattle.read_judge.specs.declared.admitting.Admitted.the-variants as admit
+use Rattle.read_judge.specs.declared.judging.Judged.the-variants as judge
 use Rattle.read_judge.specs.declared.judging.Numbers.{Numbers}
 use Rattle.read_judge.specs.declared.judging.NumbersRead.{NumbersRead}
 use Rattle.read_judge.specs.declared.judging.NumbersRead.the-variants as numbers-read
 use Rattle.read_judge.specs.declared.judging.Surveyed.{Surveyed}
 use Rattle.read_judge.specs.declared.judging.Surveyed.the-variants.{Is, Refused}
-use Rattle.read_judge.specs.declared.judging.Size.the-variants as size
-use Rattle.read_judge.specs.Judge.{score-of-token, got, unfolded, numbers-of, stuck, middle-reasons, attributes-reasons}
-use Rattle.read_judge.specs.Judge.{field-reasons, unfold-reasons}
-use Rattle.read_judge.specs.Survey.{surveyed}
-use Rattle.read_judge.specs.Inner.Fields.{middle-of, survey-fields}
-use Rattle.read_judge.specs.Inner.Size.{texts-length, sized}
-use Rattle.read_judge.proofs.AttributesLaws.{attributes-few}
+use Rattle.read_judge.specs.Judge.{score-of-token, unfolded, numbers-of, stuck, middle-reasons, attributes-reasons}
+use Rattle.read_judge.specs.Judge.{field-reasons, unfold-reasons, judged, numbers-judged}
+use Rattle.read_judge.specs.Survey.{admitted, surveyed}
+use Rattle.read_judge.specs.Inner.Fields.{middle-of}
+use Rattle.read_judge.proofs.AttributesLaws.{rest, attributes-few}
 
 -- ── the fields: columns 4 to 8, and then column 9 ─────────────────────────────────────────────
 
@@ -40,16 +42,6 @@ middle-numbered s = search needs
 
 pub unfold-numbered : (s : List ℕ) → Numbered (unfold-reasons s)
 unfold-numbered s = search needs
-
--- what a size says of the attributes
-sized-is : (o : Option (List Attribute)) {k n : ℕ} → sized o ≡ size.Is k n
-    → (stuck o ≡ false) × (k ≡ length (got o)) × (n ≡ length (flatMap attribute-of (got o)))
-sized-is none e = absurd (let z : _≡_ {A = ℕ} 0 1 = cc in omega arith)
-sized-is (some l) e = (refl, cc, cc)
-
-sized-refused : (o : Option (List Attribute)) → sized o ≡ size.Refused → stuck o ≡ true
-sized-refused none e = refl
-sized-refused (some l) e = absurd (let z : _≡_ {A = ℕ} 0 1 = cc in omega arith)
 
 -- any answer by the numbers: columns 4 to 8 refuse it, and then column 9
 module _ {A : Type 0} (refused : ℕ → A) (answer : Numbers → A) (s : List ℕ) where
@@ -75,35 +67,15 @@ module _ {A : Type 0} (refused : ℕ → A) (answer : Numbers → A) (s : List �
     unfolding unless
     unstuck-answers h = rw (← fields-by e, h)
 
-module _ (s : List ℕ) where
-  -- what a survey answers by the numbers
-  abbrev pub with-numbers : Numbers → Surveyed
-  with-numbers numbers = Is numbers (ends s) (length (unfolded s .attributes)) (length (sheet-of (unfolded s)))
-
-  module _ {numbers : Numbers} (e : middle-of s ≡ numbers-read.Is numbers) where
-    pub attributes-refused : sized (attributes (walk (column-text column.Attributes s))) ≡ size.Refused → Refused 5 ≡ survey-fields s
-    attributes-refused h = stuck-refuses Refused with-numbers s e (sized-refused (attributes (walk (column-text column.Attributes s))) h)
-
-    pub fields-are : {b : Bounds} {k n t : ℕ} → b ≡ ends s → sized (attributes (walk (column-text column.Attributes s))) ≡ size.Is k n
-        → t ≡ texts-length (unfolded s)
-        → Is numbers b k (t + 4 + n) ≡ survey-fields s
-    unfolding unfolded
-    fields-are {b} {k} {n} {t} own h texts =
-        let z = sized-is (attributes (walk (column-text column.Attributes s))) h in
-        let l : t + 4 + n ≡ length (sheet-of (unfolded s)) = omega (arith, length-sheet (unfolded s)) in
-        rw (own, z .1, l) (unstuck-answers Refused with-numbers s e (z .0))
-
 -- ── how long a sheet is at most ───────────────────────────────────────────────────────────────
 
 module _ (s : List ℕ) where
   column-short : (c : Column) → length (column-text c s) ≤ length s
   column-short c = text-short (column-place c s) s
 
-  -- the attributes, where no text is left without `=`
-  pub size-few : {k n : ℕ} → sized (attributes (walk (column-text column.Attributes s))) ≡ size.Is k n → n ≤ 6 + 6 * length s
-  size-few e =
-      let col = column-text column.Attributes s in
-      omega (arith, sized-is (attributes (walk col)) e .2, attributes-few col, column-short column.Attributes)
+  -- the attributes
+  pub attributes-short : length (rest (walk (column-text column.Attributes s))) ≤ 6 + 6 * length s
+  attributes-short = omega (arith, attributes-few (column-text column.Attributes s), column-short column.Attributes)
 
   score-short : (token : List ℕ) → length (score-of-token token) ≤ length token
   unfolding score-of-token
@@ -137,20 +109,32 @@ module _ (s : List ℕ) where
         column-short column.Attributes,
       )
 
+-- ── the numbers alone ─────────────────────────────────────────────────────────────────────────
+
+abbrev pub numbers-admitted : Admitted → NumbersRead
+numbers-admitted (admit.Is numbers b) = numbers-read.Is numbers
+numbers-admitted (admit.Refused n) = numbers-read.Refused n
+
+-- they are those of the judged line
+pub admitted-judged : (s : List ℕ) → numbers-admitted (admitted s) ≡ numbers-judged (judged s)
+admitted-judged s =
+    let n = refusal-of (unfold-reasons s) in
+    unless-map admit.Refused numbers-admitted n (admit.Is (numbers-of s) (ends s))
+    ∙ sym (unless-map judge.Refused numbers-judged n (judge.Is (numbers-of s) (length (sheet-of (unfolded s)))))
+
 -- ── what an answer says ───────────────────────────────────────────────────────────────────────
 
-pub record Told (s : List ℕ) (numbers : Numbers) (b : Bounds) (k l : ℕ) : Type 0 where
+pub record Told (s : List ℕ) (numbers : Numbers) (b : Bounds) (l : ℕ) : Type 0 where
   pub no-reason : refusal-of (unfold-reasons s) ≡ 0
   pub numbers-are : numbers ≡ numbers-of s
   pub bounds-are : b ≡ ends s
-  pub count-is : k ≡ length (unfolded s .attributes)
   pub length-is : l ≡ length (sheet-of (unfolded s))
 
-pub told : (s : List ℕ) {numbers : Numbers} {b : Bounds} {k l : ℕ} → surveyed s ≡ Is numbers b k l → Told s numbers b k l
+pub told : (s : List ℕ) {numbers : Numbers} {b : Bounds} {l : ℕ} → surveyed s ≡ Is numbers b l → Told s numbers b l
 told s e =
     let t = unless-is Refused (refusal-of (unfold-reasons s)) e (λ k x. let y : _≡_ {A = ℕ} 0 1 = cc in omega arith) in
     let h = t .1 in
-    record { no-reason = t .0; numbers-are = cc; bounds-are = cc; count-is = cc; length-is = cc }
+    record { no-reason = t .0; numbers-are = cc; bounds-are = cc; length-is = cc }
 
 pub told-refused : (s : List ℕ) {k : ℕ} → surveyed s ≡ Refused k → (k ≡ refusal-of (unfold-reasons s)) × (k ≢ 0)
 told-refused s {k} e =
@@ -158,6 +142,32 @@ told-refused s {k} e =
     let h = t .1 in
     let same : k ≡ refusal-of (unfold-reasons s) = cc in
     (same, λ x. t .0 (sym same ∙ x))
+
+pub admitted-is : (s : List ℕ) {numbers : Numbers} {b : Bounds} → admitted s ≡ admit.Is numbers b
+    → (refusal-of (unfold-reasons s) ≡ 0) × (numbers ≡ numbers-of s) × (b ≡ ends s)
+admitted-is s e =
+    let t = unless-is admit.Refused (refusal-of (unfold-reasons s)) e (λ k x. let y : _≡_ {A = ℕ} 0 1 = cc in omega arith) in
+    let h = t .1 in (t .0, cc, cc)
+
+pub admitted-not : (s : List ℕ) {k : ℕ} → admitted s ≡ admit.Refused k → (k ≡ refusal-of (unfold-reasons s)) × (k ≢ 0)
+admitted-not s {k} e =
+    let t = unless-not admit.Refused (refusal-of (unfold-reasons s)) e (λ x. let y : _≡_ {A = ℕ} 0 1 = cc in omega arith) in
+    let h = t .1 in
+    let same : k ≡ refusal-of (unfold-reasons s) = cc in
+    (same, λ x. t .0 (sym same ∙ x))
+
+-- surveying answers what is admitted, and the length of the sheet
+module _ (s : List ℕ) where
+  abbrev with-length : Admitted → Surveyed
+  with-length (admit.Is numbers b) = Is numbers b (length (sheet-of (unfolded s)))
+  with-length (admit.Refused n) = Refused n
+
+  pub survey-by : {a : Admitted} → admitted s ≡ a → with-length a ≡ surveyed s
+  survey-by e = rw (← e) (unless-map admit.Refused with-length (refusal-of (unfold-reasons s)) (admit.Is (numbers-of s) (ends s)))
+
+-- a line that nothing refuses is not too long
+pub line-short : (s : List ℕ) → refusal-of (unfold-reasons s) ≡ 0 → length s ≤ most-line
+line-short s e = ltb-false most-line (length s) (none-of (unfold-reasons s) (unfold-numbered s) e .0)
 
 -- the walk is not refused where no reason holds
 pub unstuck : (s : List ℕ) → refusal-of (unfold-reasons s) ≡ 0 → stuck (attributes (walk (column-text column.Attributes s))) ≡ false

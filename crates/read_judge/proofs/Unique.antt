@@ -2,14 +2,19 @@
 use mathlib.Core.Path.{sym, _∙_}
 use denote.Ref.{now}
 use Rattle.base_lists.proofs.One.{OneResult, OneShown}
+use Rattle.read_judge.proofs.admitting.admit.Kinds as admit-kinds
+use Rattle.read_judge.proofs.admitting.admit.Reads as admit
 use Rattle.read_judge.proofs.judging.survey.Kinds as survey-kinds
 use Rattle.read_judge.proofs.judging.survey.Reads as survey
 use Rattle.read_judge.proofs.judging.judge.Kinds as judge-kinds
 use Rattle.read_judge.proofs.judging.judge.Reads as judging
-use Rattle.read_judge.proofs.numbers.judge_numbers.Kinds as judge-numbers-kinds
-use Rattle.read_judge.proofs.numbers.judge_numbers.Reads as judge-numbers
+use Rattle.read_judge.proofs.admitting.judge_numbers.Kinds as judge-numbers-kinds
+use Rattle.read_judge.proofs.admitting.judge_numbers.Reads as judge-numbers
 use Rattle.read_judge.proofs.texts.score.Kinds as score-kinds
 use Rattle.read_judge.proofs.texts.score.Reads as score
+
+admit-one : OneResult 1 admit-kinds.ps admit-kinds.r admit.Post
+admit-one κs a x y s t p q = p ∙ sym q
 
 survey-one : OneResult 1 survey-kinds.ps survey-kinds.r survey.Post
 survey-one κs a x y s t p q = p ∙ sym q

@@ -1,26 +1,28 @@
 // A line judged: what refuses it, or its numbers and how long its sheet is.
+use super::admitting::Admitted;
 use read_attributes::Step;
 use read_columns::Bounds;
 use read_columns::Column;
 use read_fields::Record;
-use read_fields::RecordRead;
 use read_tokens::Phase;
 use read_tokens::Strand;
 use read_values::NextValue;
 use read_values::ValueCursor;
 ghost use mathlib.Core.Path.{_≡_};
+ghost use mathlib.Core.Bool.{true, false};
+ghost use mathlib.Core.List.{[], _∷_, flatMap};
 ghost use Prim.Native.Nat.{_+_, _*_, _≤_};
 ghost use lib.ListN.{length};
 ghost use Rattle.base_lists.specs.Limits.{most-line};
-ghost use Rattle.read_columns.specs.Columns.{ends};
-ghost use Rattle.read_fields.specs.declared.record.RecordRead.the-variants.{Is};
-ghost use Rattle.read_fields.specs.Fields.{record-of};
+ghost use Rattle.read_columns.specs.declared.column.Column.the-variants as column;
+ghost use Rattle.read_columns.specs.Columns.{ends, column-text};
+ghost use Rattle.percent_coding.specs.Percent.{decoded};
 ghost use Rattle.read_attributes.specs.Attributes.{values, attribute, attributes, walk};
-ghost use Rattle.sheet_form.specs.Sheet.{section-of, counted-of, attribute-of};
-ghost use Rattle.read_judge.specs.Judge.{unfolded, judged};
+ghost use Rattle.sheet_form.specs.Sheet.{section-of, counted-of, attribute-of, sheet-of};
+ghost use Rattle.read_judge.specs.Judge.{got, unfolded, stuck, judged};
 ghost use Rattle.read_judge.specs.Survey.{surveyed};
-ghost use Rattle.read_judge.specs.Inner.Fields.{numbers-in, survey-fields};
-ghost use Rattle.read_judge.specs.Inner.Size.{texts-length, sized};
+ghost use Rattle.read_judge.specs.Inner.Fields.{numbers-in};
+ghost use Rattle.read_judge.specs.Inner.Size.{texts-length};
 
 // What goes beside the sheet.
 pub struct Numbers {
@@ -39,8 +41,8 @@ pub enum Judged {
 
 // What laying the sheet takes besides.
 pub enum Surveyed {
-    // The numbers, the line's bounds, how many attributes there are, and the length of the sheet.
-    Is(Numbers, Bounds, usize, usize),
+    // The numbers, the line's bounds, and the length of the sheet.
+    Is(Numbers, Bounds, usize),
     // As `Judged`.
     Refused(u32),
 }
@@ -50,13 +52,6 @@ pub enum NumbersRead {
     Is(Numbers),
     // As `Judged`.
     Refused(u32),
-}
-
-// How many attributes there are, and how many bytes of the sheet they take.
-enum Size {
-    Is(usize, usize),
-    // Refusal 5.
-    Refused,
 }
 
 // How long the values of an attribute are on the sheet, with their count.
@@ -77,34 +72,46 @@ fn values_len(value: &[u8]) -> usize
     }
 }
 
-// How long an attribute is on the sheet.
-fn attribute_len(tag: &[u8], value: &[u8]) -> usize
-    requires { ⌜ (length (now tag) ≤ most-line) × (length (now value) ≤ most-line) ⌝ }
+// How long an attribute is on the sheet. One that is known to have neither a percent sign nor a `,` has one value, and both texts as they
+// stand.
+fn attribute_len(tag: &[u8], value: &[u8], plain: bool) -> usize
+    requires { ⌜ (length (now tag) ≤ most-line) × (length (now value) ≤ most-line)
+        × (plain ≡ true → (decoded (now tag) ≡ now tag) × (values (now value) ≡ now value ∷ [])) ⌝ }
     ensures { λ r. ⌜ (r ≡ length (attribute-of (attribute (now (tag .entry)) (now (value .entry)))))
         × (r ≤ 12 + length (now (tag .entry)) + 4 * length (now (value .entry))) ⌝ }
 {
+    if plain {
+        return 12 + tag.len() + value.len();
+    }
     4 + percent_decode::decoded_len(tag) + values_len(value)
 }
 
-// The size of the attributes of column 9; refused where text is left without `=`.
-fn attributes_size(column: &[u8]) -> Size
-    requires { ⌜ length (now column) ≤ most-line ⌝ }
-    ensures { λ r. ⌜ r ≡ sized (attributes (walk (now (column .entry)))) ⌝ }
+// How long the attributes of column 9 are on the sheet. The next percent sign and the next `,` are looked for once for all of them.
+fn attributes_len(column: &[u8]) -> usize
+    requires { ⌜ (length (now column) ≤ most-line) × (stuck (attributes (walk (now column))) ≡ false) ⌝ }
+    ensures { λ r. ⌜ r ≡ length (flatMap attribute-of (got (attributes (walk (now (column .entry)))))) ⌝ }
 {
-    let mut count: usize = 0;
     let mut n: usize = 0;
     let mut at = 0;
+    let mut percent = base_scan::find(column, 0, b'%');
+    let mut comma = base_scan::find(column, 0, b',');
     loop {
         match read_attributes::next_field(column, at) {
             Step::Is(field) => {
                 let tag = field.tag;
                 let value = field.value;
-                n += attribute_len(base_scan::text(column, tag), base_scan::text(column, value));
-                count += 1;
+                let end = value.end;
+                n += attribute_len(
+                    base_scan::text(column, tag),
+                    base_scan::text(column, value),
+                    (end <= percent) & (end <= comma),
+                );
+                percent = base_scan::find_on(column, percent, end, b'%');
+                comma = base_scan::find_on(column, comma, end, b',');
                 at = field.next;
             }
-            Step::Done => return Size::Is(count, n),
-            Step::Refused => return Size::Refused,
+            Step::Done => return n,
+            Step::Refused => return n,
         }
     }
 }
@@ -138,34 +145,26 @@ pub(crate) fn numbers_in(read: Record) -> Numbers
     }
 }
 
-// A record that was read, and the size of its sheet. Refusal 5.
-fn survey_fields(line: &[u8], read: Record) -> Surveyed
-    requires { ⌜ (record-of (now line) ≡ Is read) × (length (now line) ≤ most-line) ⌝ }
-    ensures { λ r. ⌜ r ≡ survey-fields (now (line .entry)) ⌝ }
+// How long the sheet of a line is whose bounds these are.
+fn sheet_len(line: &[u8], bounds: Bounds) -> usize
+    requires { ⌜ (bounds ≡ ends (now line)) × (length (now line) ≤ most-line)
+        × (stuck (attributes (walk (column-text column.Attributes (now line)))) ≡ false) ⌝ }
+    ensures { λ r. ⌜ r ≡ length (sheet-of (unfolded (now (line .entry)))) ⌝ }
 {
-    let bounds = read.bounds;
     let rest = read_columns::text_in(line, bounds, Column::Attributes);
-    let Size::Is(count, length) = attributes_size(rest) else {
-        return Surveyed::Refused(5);
-    };
-    Surveyed::Is(
-        numbers_in(read),
-        bounds,
-        count,
-        texts_len(line, bounds) + 4 + length,
-    )
+    texts_len(line, bounds) + 4 + attributes_len(rest)
 }
 
-// The line read, by one index, and its sheet measured. Refusals as those of `judge`.
+// The line admitted, and its sheet measured. Refusals as those of `judge`.
 pub fn survey(line: &[u8]) -> Surveyed
     ensures { λ r. ⌜ r ≡ surveyed (now (line .entry)) ⌝ }
 {
-    if base_buffer::MOST_LINE < line.len() {
-        return Surveyed::Refused(24);
-    }
-    match read_fields::record_of(line) {
-        RecordRead::Is(read) => survey_fields(line, read),
-        RecordRead::Refused(n) => Surveyed::Refused(n),
+    match super::admitting::admit(line) {
+        Admitted::Is(numbers, bounds) => {
+            let length = sheet_len(line, bounds);
+            Surveyed::Is(numbers, bounds, length)
+        }
+        Admitted::Refused(n) => Surveyed::Refused(n),
     }
 }
 
@@ -175,7 +174,7 @@ pub fn judge(line: &[u8]) -> Judged
     ensures { λ r. ⌜ r ≡ judged (now (line .entry)) ⌝ }
 {
     match survey(line) {
-        Surveyed::Is(numbers, _, _, length) => Judged::Is(numbers, length),
+        Surveyed::Is(numbers, _, length) => Judged::Is(numbers, length),
         Surveyed::Refused(n) => Judged::Refused(n),
     }
 }

@@ -26,6 +26,11 @@ unfolding pieces-after
 pieces-begin c [] piece s h = rw append-nil
 pieces-begin c (x ∷ p) piece s h = rw (ne-eqb x c (h .0), pieces-begin c p (piece ++ (x ∷ [])) s (h .1), append-assoc)
 
+-- a text without the separator is one piece
+pub pieces-whole : (c : ℕ) (s : List ℕ) → Lacks c s → pieces c s ≡ s ∷ []
+unfolding pieces-after
+pieces-whole c s h = ap (pieces c) (sym (append-nil s)) ∙ pieces-begin c s [] [] h
+
 pieces-prefixed : (c : ℕ) (piece : List ℕ) (ps : List (List ℕ)) → Every (Lacks c) ps → pieces-after c piece (prefixed c ps) ≡ piece ∷ ps
 unfolding pieces-after prefixed
 pieces-prefixed c piece [] h = refl

@@ -12,7 +12,7 @@ use Rattle.read_attributes.specs.Written.{written, column}
 use Rattle.write_measure.specs.Inner.Led.{led}
 use Rattle.write_measure.specs.Record.{score-column}
 
-led-prefixed : (c : ℕ) (ps : List (List ℕ)) → led c c ps ≡ prefixed c ps
+pub led-prefixed : (c : ℕ) (ps : List (List ℕ)) → led c c ps ≡ prefixed c ps
 unfolding led prefixed
 led-prefixed c [] = refl
 led-prefixed c (p ∷ ps) = rw (led-prefixed c ps)

@@ -1,3 +1,4 @@
+pub mod FewLaws
 pub mod MeasuredLaws
 pub mod LedLaws
 mod LineLaws

@@ -21,7 +21,7 @@ use Rattle.write_measure.specs.Inner.Led.{Measures}
 use Rattle.write_measure.specs.Record.{score-column, columns, sheet-line}
 
 module _ (encode : Set → List ℕ → List ℕ) (start end strand phase : ℕ) (s : Sheet) where
-  length-line : length (sheet-line encode (some s) start end strand phase)
+  pub length-line : length (sheet-line encode (some s) start end strand phase)
       ≡ length (encode Name (s .name)) + length (encode Column (s .source)) + length (encode Column (s .type))
       + length (decimal start) + length (decimal end) + length (score-column (s .score)) + length (column (encode Attribute)
       (s .attributes)) + 10
@@ -36,10 +36,9 @@ module _ (encode : Set → List ℕ → List ℕ) (start end strand phase : ℕ)
       → Passes (λ t. Measures (encode Column t) (b₂ + 4) (r₂ .to + 1) r₃) s b₃ (section (drop b₂ s))
       → Passes (λ t. m ≡ r₃ .to + length (tab ∷ score-column t)) s b₄ (section (drop b₃ s))
       → Passes (λ l. k ≡ m + length (tab ∷ column (encode Attribute) l)) s b₅ (counted read-attribute (drop b₄ s))
-      → k ≡ length (sheet-line encode (sheet-read s) start end strand phase)
+      → k ≡ length (sheet-line encode (some sheet) start end strand phase)
   line-length {n} {r₁} {r₂} {r₃} {m} {k} digits name source type score attributes =
-      rw e
-      (past-whole {P = λ x. k ≡ length (sheet-line encode (some x) start end strand phase)}
+      past-whole {P = λ x. k ≡ length (sheet-line encode (some x) start end strand phase)}
       (past-sheet
       (λ n o t c l x y z u v. omega (
         arith,
@@ -49,7 +48,7 @@ module _ (encode : Set → List ℕ → List ℕ) (start end strand phase : ℕ)
         length-line encode start end strand phase (record { name = n; source = o; type = t; score = c; attributes = l }),
       ))
       name source type score attributes)
-      sheet e)
+      sheet e
 
 -- the sheet has the form where it is passed to its end
 pub line-form : {s : List ℕ} {b₁ b₂ b₃ b₄ b₅ : ℕ} {N O T C : List ℕ → Type 0} {L : List column9.Attribute → Type 0}

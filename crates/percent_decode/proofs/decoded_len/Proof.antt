@@ -1,5 +1,5 @@
 -- `decoded_len`: so many bytes are decoded, and what stands from i on is left. Assumes nothing.
-use Prim.Native.Nat.{ℕ, _+_, _-_, _≤_}
+use Prim.Native.Nat.{_+_, _-_, _≤_, _<_}
 use native.Mathlib.Omega.{arith}
 use mathlib.Core.Path.{_≡_, ap}
 use lib.ListN.{length, drop}
@@ -14,38 +14,23 @@ Inv-loop s n₀ i₀ n i = (n ≤ i) × (i ≤ length s) × (length (decoded s) 
 abbrev μ-loop : tie.MeasureT-loop
 μ-loop s n₀ i₀ n i = length s - i
 
--- the bytes up to the next percent sign
-run : (c : tie.After-find Inv-loop μ-loop)
-    → let l = c .before .before in
-    let s = l .before .before .args .s .now in
-    (l .loop .i ≤ c .find .result)
-    × (length (decoded (drop (l .loop .i) s)) + l .loop .i ≡ c .find .result + length (decoded (drop (c .find .result) s)))
-run c = length-run _ _ _ (c .before .before .loop .inv .1) (c .find .ensures .0)
+-- an escape, or a percent sign that stays
+loop-again : tie.Need-loop-again Inv-loop μ-loop
+loop-again c = let one = ap length (c .decode-at .ensures .first) in (omega arith, omega arith, omega arith)
 
-add-n : tie.Need-add-n Inv-loop μ-loop
-add-n c = let h = run c in omega arith
+-- a run, up to the next percent sign
+run : (c : tie.After-find Inv-loop μ-loop)
+    → let l = c .before .before .before .before in
+    let s = l .before .before .args .s .now in
+    (l .loop .i < c .find .result)
+    × (length (decoded (drop (l .loop .i) s)) + l .loop .i ≡ c .find .result + length (decoded (drop (c .find .result) s)))
+run c = let turn = c .before .before .before in length-run _ _ _ (turn .loop-test .taken) (c .before .if1 .left) (c .find .ensures .0)
+
+loop-again-2 : tie.Need-loop-again-2 Inv-loop μ-loop
+loop-again-2 c = let h = run c in (omega arith, omega arith, omega arith)
 
 returns : tie.Need-returns Inv-loop μ-loop
 returns c =
-    let h = run (c .before) in
-    let l = c .before .before .before in
-    let none = ap length (decoded-end (l .before .before .args .s .now) (c .before .find .result) (omega arith)) in
-    (omega arith, omega arith)
-
-add-n-2 : tie.Need-add-n-2 Inv-loop μ-loop
-add-n-2 c = let h = run (c .before .before) in omega arith
-
-loop-less : tie.Need-loop-less Inv-loop μ-loop
-loop-less c = let h = run (c .before .before) in omega arith
-
-loop-again : tie.Need-loop-again Inv-loop μ-loop
-loop-again c =
-    let h = run (c .before .before) in
-    let one = ap length (c .decode-at .ensures .first) in
-    (omega arith, omega arith, omega arith)
-
-returns-2 : tie.Need-returns-2 Inv-loop μ-loop
-returns-2 c =
     let l = c .before in
     let none = ap length (decoded-end (l .before .before .args .s .now) (l .loop .i) (c .loop-test .left)) in
     (omega arith, omega arith)
@@ -57,12 +42,15 @@ decoded-len-spec =
     Inv-loop
     μ-loop
     (λ c. (omega arith, omega arith, omega arith))
-    (λ c κs. tt)
-    (λ c. run c .0)
-    add-n
-    returns
+    (λ c. omega arith)
     (λ c κs. omega arith)
-    add-n-2
-    loop-less
+    (λ c. omega arith)
+    (λ c. omega arith)
     loop-again
-    returns-2)
+    (λ c. omega arith)
+    (λ c κs. tt)
+    (λ c. omega (arith, run c))
+    (λ c. omega (arith, run c))
+    (λ c. omega (arith, run c))
+    loop-again-2
+    returns)

@@ -1,10 +1,20 @@
--- Texts with a byte before each, what measuring a text of the line answers, and that its sums do not wrap. Assumes nothing: these are definitions.
+-- Texts with a byte before each, what measuring a text of the line answers, and that its sums do not wrap. Assumes nothing: these are
+-- definitions.
 use Prim.Native.Nat.{ℕ, _+_, _*_, _^_, _≤_}
 use mathlib.Core.Path.{_≡_}
+use mathlib.Core.Bool.{Bool, true, false}
 use mathlib.Core.List.{List, [], _∷_, _++_}
 use lib.ListN.{length}
 use Rattle.base_lists.specs.Limits.{most-text}
+use Rattle.percent_coding.specs.Percent.{encoded}
+use Rattle.percent_sets.specs.declared.Set.{Set}
+use Rattle.percent_sets.specs.Sets.{escapes}
 use Rattle.write_measure.specs.declared.Spot.{Spot}
+
+-- a text as it is measured: percent-encoded by its set or, where the form of the sheet alone is asked for, as it stands
+abbrev pub as-measured : Bool → Set → List ℕ → List ℕ
+as-measured true set text = encoded (escapes set) text
+as-measured false set text = text
 
 -- the byte b before the first, and c before each other
 unfoldable pub led : ℕ → ℕ → List (List ℕ) → List ℕ

@@ -3,7 +3,8 @@ use native.Mathlib.Omega.{arith}
 use borrow.Author.Needs.{needs}
 use denote.Ref.{now}
 use Rattle.promise_demands.specs.Item.{Item, directive, line-of, reasons-of, Typed}
-use Rattle.promise_demands.proofs.TypedLaws.{all-bytes, sized}
+use Rattle.base_lists.proofs.EveryLaws.{all-bytes}
+use Rattle.promise_demands.proofs.TypedLaws.{sized}
 use Rattle.promise_demands.proofs.Demands.{demand3}
 use Rattle.promise_demands.proofs.callers.accept_directive.Statement.{statement}
 use Rattle.promise_demands.proofs.callers.accept_directive.Tie as tie

@@ -1,39 +1,30 @@
--- `survey`: the length, the record, and then the sheet. Assumes nothing.
+-- `survey`: what is admitted, and the length of its sheet. Assumes nothing.
 use borrow.Author.Needs.{needs}
-use borrow.Author.Tests.{lt-ltb, le-ltb}
 use mathlib.Core.Path.{sym, _∙_}
-use Rattle.base_buffer.specs.Answer.{unless}
-use Rattle.read_judge.specs.declared.judging.Surveyed.the-variants.{Refused}
-use Rattle.read_judge.proofs.ReadLaws.{read, read-refused}
-use Rattle.read_judge.proofs.SurveyLaws.{with-numbers}
+use Rattle.read_judge.proofs.SurveyLaws.{admitted-is, survey-by, line-short, unstuck}
 use Rattle.read_judge.proofs.judging.survey.Statement.{statement}
 use Rattle.read_judge.proofs.judging.survey.Tie as tie
 
-returns : tie.Need-returns
-unfolding unless
-returns c = rw (lt-ltb _ _ (c .if1 .taken))
+sheet-len-requires : tie.Need-sheet-len-requires
+sheet-len-requires c κs =
+    let n = c .before in
+    let a = n .before .before in
+    let s = a .before .before .args .line .now in
+    let t = admitted-is s (sym (a .admit .ensures) ∙ n .numbers .given .1) in
+    (t .2, line-short s (t .0), unstuck s (t .0))
 
-survey-fields-requires : tie.Need-survey-fields-requires
-survey-fields-requires c κs =
-    let b = c .before in
-    let i = b .before .before in (sym (i .record-of .ensures) ∙ b .read .given .1, i .before .if1 .left)
+returns : tie.Need-returns
+returns c =
+    let n = c .before .before in
+    let a = n .before .before in
+    let s = a .before .before .args .line .now in
+    rw (c .sheet-len .ensures) (survey-by s (sym (a .admit .ensures) ∙ n .numbers .given .1))
 
 returns-2 : tie.Need-returns-2
 returns-2 c =
-    let b = c .before .before in
-    let i = b .before .before in
-    let s = i .before .before .before .args .line .now in
-    rw (le-ltb _ _ (i .before .if1 .left), read s (sym (i .record-of .ensures) ∙ b .read .given .1) .columns)
-    (c .survey-fields .ensures)
-
-returns-3 : tie.Need-returns-3
-returns-3 c =
-    let b = c .before in
-    let i = b .before .before in
-    let s = i .before .before .before .args .line .now in
-    rw (le-ltb _ _ (i .before .if1 .left)) (read-refused s Refused (with-numbers s) (sym (i .record-of .ensures) ∙ b .n .given .1))
+    let n = c .before in
+    let a = n .before .before in
+    survey-by (a .before .before .args .line .now) (sym (a .admit .ensures) ∙ n .n .given .1)
 
 pub survey-spec : {M : Type 1} → statement M
-survey-spec =
-    tie.close
-    (tie.spec returns (λ c κs. tt) (λ c. search needs) survey-fields-requires (λ c. search needs) returns-2 returns-3)
+survey-spec = tie.close (tie.spec (λ c κs. tt) (λ c. search needs) sheet-len-requires (λ c. search needs) returns returns-2)

@@ -2,11 +2,10 @@
 use native.Mathlib.Omega.{arith}
 use borrow.Author.Needs.{needs}
 use Rattle.percent_sets.specs.declared.Set.the-variants.{Attribute}
-use Rattle.percent_coding.specs.Percent.{encoded}
-use Rattle.percent_sets.specs.Sets.{escapes}
 use Rattle.sheet_form.specs.Sheet.{section}
 use Rattle.sheet_form.proofs.CursorLaws.{CountHands, count-meets}
 use Rattle.sheet_form.proofs.PastLaws.{times-length, past-also, past-some, past-zero, past-cut, past-attribute}
+use Rattle.write_measure.specs.Inner.Led.{as-measured}
 use Rattle.write_measure.proofs.LoopLaws.{measures-attribute}
 use Rattle.write_measure.proofs.length.attribute_len.Statement.{statement}
 use Rattle.write_measure.proofs.length.attribute_len.Tie as tie
@@ -31,7 +30,7 @@ returns-2 c =
     let tag = d .before .before .before in
     let a = tag .before .before .args in
     past-attribute _ (a .from)
-    (λ t vs p q. measures-attribute (encoded (escapes Attribute)) (a .from) (a .n) _ (tag .text-len .result) (c .values-len .result) t vs
+    (λ t vs p q. measures-attribute (as-measured (a .coded) Attribute) (a .from) (a .n) _ (tag .text-len .result) (c .values-len .result) t vs
     (hands d .behind) (λ e. omega (arith, q .1, some .if1 .left)) p (q .0))
     (tag .text-len .ensures .0)
     (past-some _ _ (hands d) (some .if1 .left)

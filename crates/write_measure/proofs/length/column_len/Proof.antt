@@ -6,12 +6,11 @@ use mathlib.Core.List.{map}
 use lib.ListN.{length}
 use Rattle.base_lists.specs.Bytes.{tab, semicolon}
 use Rattle.percent_sets.specs.declared.Set.the-variants.{Attribute}
-use Rattle.percent_coding.specs.Percent.{encoded}
-use Rattle.percent_sets.specs.Sets.{escapes}
 use Rattle.read_attributes.specs.Written.{written, column}
 use Rattle.sheet_form.specs.Sheet.{read-attribute}
 use Rattle.sheet_form.proofs.CursorLaws.{CountHands, count-meets}
 use Rattle.sheet_form.proofs.PastLaws.{times-length, past-also, past-weaken, past-all, past-counted, past-uncounted}
+use Rattle.write_measure.specs.Inner.Led.{as-measured}
 use Rattle.write_measure.proofs.LedLaws.{length-led, led-column}
 use Rattle.write_measure.proofs.length.column_len.Statement.{statement}
 use Rattle.write_measure.proofs.length.column_len.Tie as tie
@@ -32,13 +31,14 @@ returns-2 : tie.Need-returns-2
 returns-2 c =
     let some = c .before in
     let d = some .before .before in
+    let code = as-measured (d .before .before .before .before .args .coded) Attribute in
     past-counted _ _ (hands d)
     (past-weaken
     (λ l p. omega (
       arith,
       p .0 .to,
-      length-led tab semicolon semicolon (map (written (encoded (escapes Attribute))) l),
-      ap length (led-column (encoded (escapes Attribute)) l (λ e. some .if1 .left (sym (p .1) ∙ e))),
+      length-led tab semicolon semicolon (map (written code) l),
+      ap length (led-column code l (λ e. some .if1 .left (sym (p .1) ∙ e))),
     ))
     (past-also (λ l rest e. times-length read-attribute (d .count .given .0 .0) _ l rest e) (c .attributes-len .ensures)))
 

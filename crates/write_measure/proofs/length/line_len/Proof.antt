@@ -1,14 +1,11 @@
 -- `line_len`: the lengths of the pieces of the line, added up. Assumes nothing.
 use native.Mathlib.Omega.{arith}
-use Rattle.percent_coding.specs.Percent.{encoded}
-use Rattle.percent_sets.specs.Sets.{escapes}
-use Rattle.write_measure.specs.Record.{record-line}
+use Rattle.write_measure.specs.Inner.Led.{as-measured}
 use Rattle.write_measure.proofs.LineLaws.{line-length, line-form}
 use Rattle.write_measure.proofs.length.line_len.Statement.{statement}
 use Rattle.write_measure.proofs.length.line_len.Tie as tie
 
 returns : tie.Need-returns
-unfolding record-line
 returns c =
     let score = c .before in
     let type = score .before in
@@ -19,7 +16,7 @@ returns c =
       line-form (name .text-len .ensures .0) (source .text-len2 .ensures .0) (type .text-len3 .ensures .0) (score .score-len .ensures .0)
           (c .column-len .ensures),
       λ s strand phase e.
-          line-length (λ set. encoded (escapes set)) _ _ strand phase s e
+          line-length (as-measured (start .before .before .args .coded)) _ _ strand phase s e
           (omega (arith, start .decimal-len .ensures .0, end .decimal-len2 .ensures .0)) (name .text-len .ensures .0)
           (source .text-len2 .ensures .0) (type .text-len3 .ensures .0) (score .score-len .ensures .0) (c .column-len .ensures),
     )

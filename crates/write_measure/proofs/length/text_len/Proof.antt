@@ -27,8 +27,8 @@ text-length c =
           (p .before .before .before .before .args .sheet .now) (h .inside),
     )
 
-add-t10 : tie.Need-add-t10
-add-t10 c = let h = hands (c .before .before .before) in omega (arith, text-length (c .before))
+add-t11 : tie.Need-add-t11
+add-t11 c = let h = hands (c .before .before .before) in omega (arith, text-length (c .before))
 
 returns : tie.Need-returns
 returns c =
@@ -47,8 +47,8 @@ text-len-spec =
     (λ c κs. tt)
     (λ c. search needs)
     (λ c κs. tt)
-    (λ c κs. tt)
-    add-t10
+    (λ c κs. let h = hands (c .before .before) in let s = c .before .before .before .before .before .before in omega (arith, text-length c, s .pre .0))
+    add-t11
     (λ c. search needs)
     (λ c. search needs)
     returns
