@@ -118,6 +118,13 @@ module _ {A : Type 0} (refused : ℕ → A) where
   unless-not zero e h = absurd (h e)
   unless-not (suc n) e h = (λ z. omega arith, e)
 
+  -- where what is answered otherwise is no refusal, and no two refusals are alike, a refusal tells the number
+  pub unless-told : (n k : ℕ) {a : A} → unless refused n a ≡ refused k → a ≢ refused k → ((i j : ℕ) → refused i ≡ refused j → i ≡ j)
+      → (k ≡ n) × (k ≢ 0)
+  unless-told n k e other alike =
+      let t = unless-not n e other in
+      let same = sym (alike n k (t .1)) in (same, λ x. t .0 (sym same ∙ x))
+
 -- ── how a writer ends ─────────────────────────────────────────────────────────────────────────
 
 module _ {reasons : List Reason} {text d : List ℕ} {n : ℕ} (e : n ≡ refusal-of reasons) where

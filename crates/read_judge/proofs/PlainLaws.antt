@@ -5,7 +5,6 @@ use mathlib.Core.Path.{_≡_, refl, ap, _∙_}
 use mathlib.Core.Bool.{Bool, true, false, cond, _&&_}
 use mathlib.Core.List.{List, [], _∷_, map}
 use lib.Dec.{leb, ltb}
-use lib.ListN.{length}
 use borrow.Author.Tests.{leb-true}
 use Rattle.base_lists.specs.Bytes.{Lacks, percent, comma}
 use Rattle.base_lists.proofs.BoolLaws.{and-left, and-right}

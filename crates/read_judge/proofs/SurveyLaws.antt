@@ -3,7 +3,7 @@ use Prim.Native.Nat.{ℕ, _+_, _*_, _≤_}
 use native.Mathlib.Omega.{arith}
 use borrow.Author.Needs.{needs}
 use borrow.Author.Tests.{ltb-false}
-use mathlib.Core.Path.{_≡_, refl, sym, _∙_}
+use mathlib.Core.Path.{_≡_, sym, _∙_}
 use mathlib.Core.Logic.{_≢_}
 use mathlib.Core.Bool.{Bool, true, false, cond}
 use mathlib.Core.List.{List, []}
@@ -11,7 +11,7 @@ use lib.ListN.{length}
 use Rattle.base_lists.specs.Limits.{most-line}
 use Rattle.base_words.specs.Same.{is-dot}
 use Rattle.base_buffer.specs.Answer.{refusal-of, unless}
-use Rattle.base_buffer.proofs.AnswerLaws.{Numbered, none-of, unless-append, unless-map, unless-is, unless-not}
+use Rattle.base_buffer.proofs.AnswerLaws.{Numbered, none-of, unless-append, unless-map, unless-is, unless-told}
 use Rattle.read_columns.specs.declared.bounds.Bounds.{Bounds}
 use Rattle.read_columns.specs.declared.column.Column.{Column}
 use Rattle.read_columns.specs.declared.column.Column.the-variants as column
@@ -138,10 +138,7 @@ told s e =
 
 pub told-refused : (s : List ℕ) {k : ℕ} → surveyed s ≡ Refused k → (k ≡ refusal-of (unfold-reasons s)) × (k ≢ 0)
 told-refused s {k} e =
-    let t = unless-not Refused (refusal-of (unfold-reasons s)) e (λ x. let y : _≡_ {A = ℕ} 0 1 = cc in omega arith) in
-    let h = t .1 in
-    let same : k ≡ refusal-of (unfold-reasons s) = cc in
-    (same, λ x. t .0 (sym same ∙ x))
+    unless-told Refused (refusal-of (unfold-reasons s)) k e (λ x. let y : _≡_ {A = ℕ} 0 1 = cc in omega arith) (λ i j x. cc)
 
 pub admitted-is : (s : List ℕ) {numbers : Numbers} {b : Bounds} → admitted s ≡ admit.Is numbers b
     → (refusal-of (unfold-reasons s) ≡ 0) × (numbers ≡ numbers-of s) × (b ≡ ends s)
@@ -151,10 +148,7 @@ admitted-is s e =
 
 pub admitted-not : (s : List ℕ) {k : ℕ} → admitted s ≡ admit.Refused k → (k ≡ refusal-of (unfold-reasons s)) × (k ≢ 0)
 admitted-not s {k} e =
-    let t = unless-not admit.Refused (refusal-of (unfold-reasons s)) e (λ x. let y : _≡_ {A = ℕ} 0 1 = cc in omega arith) in
-    let h = t .1 in
-    let same : k ≡ refusal-of (unfold-reasons s) = cc in
-    (same, λ x. t .0 (sym same ∙ x))
+    unless-told admit.Refused (refusal-of (unfold-reasons s)) k e (λ x. let y : _≡_ {A = ℕ} 0 1 = cc in omega arith) (λ i j x. cc)
 
 -- surveying answers what is admitted, and the length of the sheet
 module _ (s : List ℕ) where

@@ -1,7 +1,7 @@
 -- How long a record's line is at most: no byte of the sheet makes more than three of the line, its counts among them. Assumes nothing.
 use Prim.Native.Nat.{ℕ, _+_, _*_, _^_, _≤_, _<_}
 use native.Mathlib.Omega.{arith}
-use mathlib.Core.Path.{_≡_, refl, ap, _∙_}
+use mathlib.Core.Path.{_≡_, ap}
 use mathlib.Core.Option.{some}
 use mathlib.Core.List.{List, [], _∷_, map, flatMap}
 use lib.ListN.{length, length-append}
@@ -15,11 +15,11 @@ use Rattle.percent_sets.proofs.SetLaws.{coder-of}
 use Rattle.read_values.specs.Pieces.{joined}
 use Rattle.read_attributes.specs.Attributes as column9
 use Rattle.read_attributes.specs.Written.{written, column}
-use Rattle.sheet_form.specs.Sheet.{Sheet, section-of, attribute-of, sheet-of, sheet-read}
+use Rattle.sheet_form.specs.Sheet.{Sheet, section-of, attribute-of, sheet-read}
 use Rattle.sheet_form.proofs.LengthLaws.{length-section, length-attribute, length-sheet}
 use Rattle.sheet_form.proofs.SheetLaws.{of-read}
 use Rattle.write_measure.specs.Inner.Led.{led}
-use Rattle.write_measure.specs.Record.{score-column, sheet-line, record-line}
+use Rattle.write_measure.specs.Record.{score-column, record-line}
 use Rattle.write_measure.proofs.LedLaws.{led-prefixed, led-column}
 use Rattle.write_measure.proofs.LineLaws.{length-line}
 

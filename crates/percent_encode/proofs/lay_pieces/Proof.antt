@@ -1,5 +1,4 @@
 -- `lay_pieces`: what is left to lay is the encoded text from i on. Assumes nothing.
-use mathlib.Core.Path.{_≡_}
 use Prim.Native.Nat.{_-_, _≤_}
 use native.Mathlib.Omega.{arith}
 use borrow.Author.Needs.{needs}

@@ -12,7 +12,7 @@ use Rattle.base_scan.specs.Part.{text-at}
 use Rattle.read_attributes.specs.Attributes.{Attribute, attribute, attributes, walk-from, walk}
 use Rattle.read_attributes.proofs.WalkLaws.{Hands, meets}
 use Rattle.sheet_form.specs.Sheet.{attribute-of}
-use Rattle.read_judge.specs.Judge.{stuck, got}
+use Rattle.read_judge.specs.Judge.{stuck}
 use Rattle.read_judge.proofs.AttributesLaws.{rest, got-next, got-done, refused-stuck}
 use Rattle.read_judge.proofs.PlainLaws.{Ahead, ahead-at, ahead-behind, plain-field}
 use Rattle.read_judge.proofs.judging.attributes_len.Statement.{statement}

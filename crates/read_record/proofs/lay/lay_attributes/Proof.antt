@@ -10,7 +10,6 @@ use Rattle.base_lists.specs.Bytes.{percent, comma}
 use Rattle.base_buffer.proofs.LaidLaws.{Left, left-start, lays-rest, lays-length, none-left}
 use Rattle.read_attributes.specs.Attributes.{attributes, walk-from, walk}
 use Rattle.read_attributes.proofs.WalkLaws.{Hands, meets}
-use Rattle.sheet_form.specs.Sheet.{attribute-of}
 use Rattle.read_judge.specs.Judge.{stuck, got}
 use Rattle.read_judge.proofs.AttributesLaws.{rest, got-next, got-done, refused-stuck}
 use Rattle.read_judge.proofs.PlainLaws.{Ahead, ahead-at, ahead-behind, plain-field}

@@ -1,5 +1,5 @@
 -- `measure`: the first reason that holds, or the length. Assumes nothing.
-use mathlib.Core.Path.{_≡_, sym, _∙_}
+use mathlib.Core.Path.{sym, _∙_}
 use borrow.Author.Tests.{lt-ltb}
 use Rattle.base_buffer.specs.Answer.{unless}
 use Rattle.base_buffer.proofs.AnswerLaws.{unless-refused}

@@ -1,17 +1,10 @@
 -- `refusal_behind`: 23 where the sheet was not passed to its end, else what its fields give. Assumes nothing.
-use mathlib.Core.Path.{_≡_, refl, sym, _∙_}
-use mathlib.Core.Bool.{true, true≢false}
-use mathlib.Core.Option.{Option, none, some}
+use mathlib.Core.Path.{sym, _∙_}
 use borrow.Author.Tests.{le-ltb, eq-eqb, ne-eqb}
-use Rattle.sheet_form.specs.Sheet.{Sheet, sheet-read, is-some}
 use Rattle.write_measure.specs.Record.{record-reasons}
-use Rattle.write_measure.proofs.MeasuredLaws.{found}
+use Rattle.write_measure.proofs.MeasuredLaws.{got, found}
 use Rattle.write_measure.proofs.measuring.refusal_behind.Statement.{statement}
 use Rattle.write_measure.proofs.measuring.refusal_behind.Tie as tie
-
-got : (m : Option Sheet) → is-some m ≡ true → (s : Sheet) × (m ≡ some s)
-got none e = absurd (true≢false (sym e))
-got (some s) e = (s, refl)
 
 returns : tie.Need-returns
 unfolding record-reasons

@@ -1,7 +1,7 @@
 -- `write_at_once`: refused, or the line, which is at most three times as long as the sheet. Assumes nothing.
 use native.Mathlib.Omega.{arith}
 use borrow.Author.Needs.{needs}
-use mathlib.Core.Path.{_≡_, refl, sym, _∙_}
+use mathlib.Core.Path.{refl, sym, _∙_}
 use Rattle.base_lists.proofs.EveryLaws.{all-bytes}
 use Rattle.base_buffer.proofs.AnswerLaws.{wrote-refused, wrote-done}
 use Rattle.write_measure.proofs.MeasuredLaws.{taken}
