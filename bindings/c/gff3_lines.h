@@ -25,7 +25,7 @@
 #include <stddef.h>
 #include <stdint.h>
 
-#define GFF3_LINES_VERSION "0.5.0"
+#define GFF3_LINES_VERSION "0.6.0"
 
 #ifdef __cplusplus
 extern "C" {

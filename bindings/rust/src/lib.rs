@@ -26,5 +26,5 @@ pub use reader::{IntoLines, ReadError, Reader};
 pub use record::{Bounds, Record};
 pub use refusal::Refusal;
 pub use report::{Report, report};
-pub use sheet::{Judged, Sheet, judge};
+pub use sheet::{Judged, Sheet, judge, rewrite_into};
 pub use writing::{Value, write_comment, write_comment_into, write_directive, write_directive_into};

@@ -1,6 +1,6 @@
 //! The lines of a text that comes in parts.
 
-use std::fmt;
+use std::{fmt, mem};
 
 use crate::{Line, Refusal, ffi};
 
@@ -33,6 +33,11 @@ use crate::{Line, Refusal, ffi};
 pub struct Parts {
     hold: Box<[u8]>,
     state: ffi::State,
+    /// The line feeds of the text so far.
+    feeds: u64,
+    /// The number of the line that was handed out or refused last, and its length in the hold.
+    number: u64,
+    length: usize,
 }
 
 impl Parts {
@@ -52,6 +57,9 @@ impl Parts {
         Parts {
             hold: vec![0; Self::HOLD_LENGTH].into_boxed_slice(),
             state: ffi::State::default(),
+            feeds: 0,
+            number: 0,
+            length: 0,
         }
     }
 
@@ -72,8 +80,8 @@ impl Parts {
     /// assert_eq!(parts.take(&mut &b"c\n"[..]), Some(Ok(Line(b"bc"))));
     /// ```
     pub fn take(&mut self, part: &mut &[u8]) -> Option<Result<Line<'_>, Refusal>> {
-        let length = self.take_length(part)?;
-        Some(length.map(|length| self.line(length)))
+        let taken = self.advance(part)?;
+        Some(taken.map(|()| self.line()))
     }
 
     /// Ends the text: the line that is begun, with a carriage return at its end if it has one; `None` where none is. What is taken next is
@@ -89,8 +97,8 @@ impl Parts {
     /// assert_eq!(parts.end(), None);
     /// ```
     pub fn end(&mut self) -> Option<Result<Line<'_>, Refusal>> {
-        let length = self.end_length()?;
-        Some(length.map(|length| self.line(length)))
+        let taken = self.advance_to_end()?;
+        Some(taken.map(|()| self.line()))
     }
 
     /// Whether a line is begun and not ended: the text, if it ended here, would have a last line without a line feed.
@@ -107,33 +115,75 @@ impl Parts {
         self.state != ffi::State::default()
     }
 
-    /// As [`Parts::take`], with the length of the line alone. It borrows nothing, so that it can be called in a loop.
-    pub(crate) fn take_length(&mut self, part: &mut &[u8]) -> Option<Result<usize, Refusal>> {
+    /// The line that the last call has handed out, once more; without a byte where it has handed out none. What [`Parts::take`] lends keeps
+    /// the parts from being asked for anything else; this does not.
+    ///
+    /// ```
+    /// use gff3_lines::{Line, Parts};
+    ///
+    /// let mut parts = Parts::new();
+    ///
+    /// assert!(parts.take(&mut &b"\na\n"[..]).is_some());
+    /// assert_eq!((parts.number(), parts.line()), (2, Line(b"a")));
+    /// ```
+    pub fn line(&self) -> Line<'_> {
+        Line(&self.hold[..self.length])
+    }
+
+    /// The number of the line that was handed out or refused last, from 1 on, with blank lines counted; 0 before the first.
+    ///
+    /// ```
+    /// let mut parts = gff3_lines::Parts::new();
+    ///
+    /// assert!(parts.take(&mut &b"\n\r\na\n"[..]).is_some());
+    /// assert_eq!(parts.number(), 3);
+    /// ```
+    pub fn number(&self) -> u64 {
+        self.number
+    }
+
+    /// As [`Parts::take`], with the line left in its place. It borrows nothing, so that it can be called in a loop.
+    pub(crate) fn advance(&mut self, part: &mut &[u8]) -> Option<Result<(), Refusal>> {
         let (hold, hold_len) = (self.hold.as_mut_ptr(), self.hold.len());
         // SAFETY: the hold and the part are slices, and the hold is this struct's own, so that they do not overlap.
         let answer = unsafe { ffi::gff3_take_part(self.state, hold, hold_len, part.as_ptr(), part.len()) };
-        *part = &part[answer.taken..];
-        self.answered(answer)
+        let (taken, left) = part.split_at(answer.taken);
+        *part = left;
+        let line = self.answered(answer);
+        self.feeds += line_feeds(taken, line.is_some());
+        if line.is_some() {
+            self.number = self.feeds;
+        }
+        line
     }
 
-    /// As [`Parts::end`], with the length of the line alone.
-    pub(crate) fn end_length(&mut self) -> Option<Result<usize, Refusal>> {
+    /// As [`Parts::end`], with the line left in its place.
+    pub(crate) fn advance_to_end(&mut self) -> Option<Result<(), Refusal>> {
         // SAFETY: the hold is a slice.
         let answer = unsafe { ffi::gff3_end_parts(self.state, self.hold.as_mut_ptr(), self.hold.len()) };
-        self.answered(answer)
+        let line = self.answered(answer);
+        let feeds = mem::take(&mut self.feeds);
+        if line.is_some() {
+            self.number = feeds + 1;
+        }
+        line
     }
 
-    /// The line of this length that the last call has handed out.
-    pub(crate) fn line(&self, length: usize) -> Line<'_> {
-        Line(&self.hold[..length])
-    }
-
-    fn answered(&mut self, answer: ffi::Part) -> Option<Result<usize, Refusal>> {
+    fn answered(&mut self, answer: ffi::Part) -> Option<Result<(), Refusal>> {
         self.state = answer.state;
+        self.length = answer.length;
         match Refusal::check(answer.refused) {
-            Ok(()) => (answer.has_line != 0).then_some(Ok(answer.length)),
+            Ok(()) => (answer.has_line != 0).then_some(Ok(())),
             Err(refusal) => Some(Err(refusal)),
         }
+    }
+}
+
+/// The line feeds of what one call has taken: one where a line has ended, and before it those of blank lines, which begin with a line end.
+fn line_feeds(taken: &[u8], ended: bool) -> u64 {
+    match taken.first() {
+        Some(b'\r' | b'\n') => taken.iter().filter(|&&byte| byte == b'\n').count() as u64,
+        _ => u64::from(ended),
     }
 }
 

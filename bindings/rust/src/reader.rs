@@ -115,6 +115,36 @@ impl<R> Reader<R> {
         self.ended
     }
 
+    /// The line that the last call has handed out, once more; without a byte where it has handed out none. What [`Reader::next_line`] lends
+    /// keeps the reader from being asked for anything else; this does not.
+    ///
+    /// ```
+    /// use gff3_lines::{Line, Reader};
+    ///
+    /// let mut reader = Reader::new(&b"a\nb"[..]);
+    ///
+    /// while reader.next_line().transpose()?.is_some() {
+    ///     println!("{}: {:?}, {}", reader.number(), reader.line(), reader.is_cut());
+    /// }
+    /// # Ok::<(), gff3_lines::ReadError>(())
+    /// ```
+    pub fn line(&self) -> Line<'_> {
+        self.parts.line()
+    }
+
+    /// The number of the line that was answered last, from 1 on, with blank lines counted; 0 before the first.
+    ///
+    /// ```
+    /// let mut reader = gff3_lines::Reader::new(&b"\n\na\n"[..]);
+    ///
+    /// assert_eq!(reader.next_line().transpose()?, Some(gff3_lines::Line(b"a")));
+    /// assert_eq!(reader.number(), 3);
+    /// # Ok::<(), gff3_lines::ReadError>(())
+    /// ```
+    pub fn number(&self) -> u64 {
+        self.parts.number()
+    }
+
     /// The input.
     ///
     /// ```
@@ -166,8 +196,8 @@ impl<R: Read> Reader<R> {
     /// assert!(reader.next_line().is_none());
     /// ```
     pub fn next_line(&mut self) -> Option<Result<Line<'_>, ReadError>> {
-        let length = self.next_length()?;
-        Some(length.map(|length| self.parts.line(length)))
+        let next = self.advance()?;
+        Some(next.map(|()| self.parts.line()))
     }
 
     /// The lines as an iterator, each in a `Vec` of its own. It is no end of the iterator where an error comes: a loop that goes on
@@ -183,21 +213,21 @@ impl<R: Read> Reader<R> {
         IntoLines { reader: self }
     }
 
-    /// As [`Reader::next_line`], with the length of the line alone: a line that is borrowed in a loop could not be handed out of it.
-    fn next_length(&mut self) -> Option<Result<usize, ReadError>> {
+    /// As [`Reader::next_line`], with the line left in its place: one that is borrowed in a loop could not be handed out of it.
+    fn advance(&mut self) -> Option<Result<(), ReadError>> {
         if mem::take(&mut self.ended) {
             return None;
         }
         loop {
             let mut part = &self.buffer[self.at..self.end];
-            let line = self.parts.take_length(&mut part);
+            let line = self.parts.advance(&mut part);
             self.at = self.end - part.len();
-            if let Some(length) = line {
-                return Some(length.map_err(ReadError::from));
+            if let Some(taken) = line {
+                return Some(taken.map_err(ReadError::from));
             }
             match self.fill() {
                 Ok(true) => {}
-                Ok(false) => return self.end_length(),
+                Ok(false) => return self.advance_to_end(),
                 Err(error) if error.kind() == io::ErrorKind::Interrupted => {}
                 Err(error) => return Some(Err(error.into())),
             }
@@ -216,10 +246,10 @@ impl<R: Read> Reader<R> {
         Ok(count > 0)
     }
 
-    fn end_length(&mut self) -> Option<Result<usize, ReadError>> {
-        let length = self.parts.end_length();
-        self.ended = length.is_some();
-        length.map(|length| length.map_err(ReadError::from))
+    fn advance_to_end(&mut self) -> Option<Result<(), ReadError>> {
+        let line = self.parts.advance_to_end();
+        self.ended = line.is_some();
+        line.map(|taken| taken.map_err(ReadError::from))
     }
 }
 

@@ -59,6 +59,8 @@ pub struct Report {
     pub refused_phase: u64,
     /// Lines refused by [`Refusal::Attribute`].
     pub refused_attribute: u64,
+    /// Lines refused by [`Refusal::LineTooLong`], for one who counts a text that comes in parts; [`report`] answers 0 here.
+    pub refused_line_too_long: u64,
     /// How many lengths lie in each power of two: `lengths[i]` counts those of at least 2^i and below 2^(i + 1).
     pub lengths: [u64; 64],
 }
@@ -91,6 +93,7 @@ pub fn report(text: &[u8]) -> Result<Report, Refusal> {
         refused_strand: morning.refused_strand,
         refused_phase: morning.refused_phase,
         refused_attribute: morning.refused_attribute,
+        refused_line_too_long: 0,
         lengths: morning.lengths,
     })
 }
@@ -116,7 +119,7 @@ impl Report {
         self.refused().iter().map(|(_, count)| count).sum()
     }
 
-    /// The seven reasons to refuse a line, in the order of their numbers, and how many lines each refuses.
+    /// The eight reasons to refuse a line, in the order of their numbers, and how many lines each refuses.
     ///
     /// ```
     /// use gff3_lines::Refusal;
@@ -124,10 +127,10 @@ impl Report {
     /// let refused = gff3_lines::report(b"a\n")?.refused();
     ///
     /// assert_eq!(refused[0], (Refusal::Columns, 1));
-    /// assert_eq!(refused[6], (Refusal::TooLong, 0));
+    /// assert_eq!(refused[7], (Refusal::LineTooLong, 0));
     /// # Ok::<(), Refusal>(())
     /// ```
-    pub fn refused(&self) -> [(Refusal, u64); 7] {
+    pub fn refused(&self) -> [(Refusal, u64); 8] {
         [
             (Refusal::Columns, self.refused_columns),
             (Refusal::Position, self.refused_position),
@@ -136,7 +139,41 @@ impl Report {
             (Refusal::Attribute, self.refused_attribute),
             (Refusal::Score, self.refused_score),
             (Refusal::TooLong, self.refused_too_long),
+            (Refusal::LineTooLong, self.refused_line_too_long),
         ]
+    }
+
+    /// Adds the report of another text. What comes out is the report of the one text behind the other, if the first is empty or ends by a
+    /// line feed. Refused by [`Refusal::Sum`], and left as it is, where the lengths of both add up to more than a [`u64`] holds.
+    ///
+    /// ```
+    /// use gff3_lines::report;
+    ///
+    /// let (first, second) = ("# a\nb\n", "sq0\t.\texon\t8\t13\t.\t+\t.\t.\n");
+    /// let mut both = report(first.as_bytes())?;
+    /// both.add(&report(second.as_bytes())?)?;
+    ///
+    /// assert_eq!(both, report([first, second].concat().as_bytes())?);
+    /// # Ok::<(), gff3_lines::Refusal>(())
+    /// ```
+    pub fn add(&mut self, other: &Report) -> Result<(), Refusal> {
+        self.sum = self.sum.checked_add(other.sum).ok_or(Refusal::Sum)?;
+        self.records += other.records;
+        self.directives += other.directives;
+        self.comments += other.comments;
+        self.reversed += other.reversed;
+        self.refused_too_long += other.refused_too_long;
+        self.refused_columns += other.refused_columns;
+        self.refused_position += other.refused_position;
+        self.refused_score += other.refused_score;
+        self.refused_strand += other.refused_strand;
+        self.refused_phase += other.refused_phase;
+        self.refused_attribute += other.refused_attribute;
+        self.refused_line_too_long += other.refused_line_too_long;
+        for (length, more) in self.lengths.iter_mut().zip(other.lengths) {
+            *length += more;
+        }
+        Ok(())
     }
 }
 

@@ -58,7 +58,8 @@ impl Sheet {
     /// assert_eq!(Sheet::of_line(b"sq0\t\t\t0\t\t\t\t\t"), Err(Refusal::Position));
     /// ```
     pub fn of_line(line: &[u8]) -> Result<Self, Refusal> {
-        let (sheet, unfolded) = unfold(line)?;
+        let mut sheet = Vec::new();
+        let unfolded = unfold_into(line, &mut sheet)?;
         let rest = &mut &sheet[..];
         let [reference_sequence_name, source, ty, score] = std::array::from_fn(|_| take_text(rest));
         let attributes = (0..take_count(rest))
@@ -115,23 +116,14 @@ impl Sheet {
     /// # Ok::<(), gff3_lines::Refusal>(())
     /// ```
     pub fn line_into(&self, out: &mut Vec<u8>) -> Result<(), Refusal> {
-        let sheet = self.bytes();
-        let phase = self.phase.map_or(3, |phase| phase as u32);
-        // The line has at most three bytes for each of the sheet's: with so much room it is laid at once, and not measured first.
-        let guess = 3 * sheet.len();
-        // SAFETY: the sheet is a slice, and the buffer another.
-        append(out, guess, |out| unsafe {
-            ffi::gff3_write_record(
-                sheet.as_ptr(),
-                sheet.len(),
-                self.start,
-                self.end,
-                self.strand as u32,
-                phase,
-                out.as_mut_ptr().cast(),
-                out.len(),
-            )
-        })
+        let numbers = ffi::Unfolded {
+            start: self.start,
+            end: self.end,
+            strand: self.strand as u32,
+            phase: self.phase.map_or(3, |phase| phase as u32),
+            ..ffi::Unfolded::default()
+        };
+        write_into(&self.bytes(), &numbers, out)
     }
 
     /// The bytes of the sheet, as `bindings/c/gff3_lines.h` says it.
@@ -196,13 +188,30 @@ pub fn judge(line: &[u8]) -> Result<Judged, Refusal> {
     })
 }
 
-/// The bytes of a line's sheet, and the numbers beside them.
-fn unfold(line: &[u8]) -> Result<(Vec<u8>, ffi::Unfolded), Refusal> {
-    let mut sheet = Vec::new();
+/// The line of a record, unfolded and written again, appended to a buffer: what [`Sheet::of_line`] and [`Sheet::line_into`] give one after
+/// the other, with their refusals, without a field in memory of its own. Nothing is appended where it is refused.
+///
+/// `sheet` lends its memory: afterwards it holds the bytes of the field sheet, or none where the line is refused before it is written.
+///
+/// ```
+/// let (mut sheet, mut out) = (Vec::new(), Vec::new());
+/// gff3_lines::rewrite_into(b"sq0\t.\tgene\t08\t13\t.\t+\t.\tID=%61", &mut sheet, &mut out)?;
+///
+/// assert_eq!(out, b"sq0\t.\tgene\t8\t13\t.\t+\t.\tID=a");
+/// # Ok::<(), gff3_lines::Refusal>(())
+/// ```
+pub fn rewrite_into(line: &[u8], sheet: &mut Vec<u8>, out: &mut Vec<u8>) -> Result<(), Refusal> {
+    sheet.clear();
+    let unfolded = unfold_into(line, sheet)?;
+    write_into(sheet, &unfolded, out)
+}
+
+/// Appends the bytes of a line's sheet, and answers the numbers beside them.
+fn unfold_into(line: &[u8], sheet: &mut Vec<u8>) -> Result<ffi::Unfolded, Refusal> {
     let mut unfolded = ffi::Unfolded::default();
     // The sheet has at most ten bytes for each of the line's, and 26: with so much room it is laid at once, and not measured first.
     let guess = line.len().saturating_mul(10).saturating_add(26);
-    append(&mut sheet, guess, |out| {
+    append(sheet, guess, |out| {
         // SAFETY: the line is a slice, and the buffer another.
         unfolded = unsafe { ffi::gff3_unfold(line.as_ptr(), line.len(), out.as_mut_ptr().cast(), out.len()) };
         ffi::Written {
@@ -210,7 +219,26 @@ fn unfold(line: &[u8]) -> Result<(Vec<u8>, ffi::Unfolded), Refusal> {
             length: unfolded.length,
         }
     })?;
-    Ok((sheet, unfolded))
+    Ok(unfolded)
+}
+
+/// Appends the line of a sheet and the numbers beside it.
+fn write_into(sheet: &[u8], numbers: &ffi::Unfolded, out: &mut Vec<u8>) -> Result<(), Refusal> {
+    // The line has at most three bytes for each of the sheet's: with so much room it is laid at once, and not measured first.
+    let guess = 3 * sheet.len();
+    // SAFETY: the sheet is a slice, and the buffer another.
+    append(out, guess, |out| unsafe {
+        ffi::gff3_write_record(
+            sheet.as_ptr(),
+            sheet.len(),
+            numbers.start,
+            numbers.end,
+            numbers.strand,
+            numbers.phase,
+            out.as_mut_ptr().cast(),
+            out.len(),
+        )
+    })
 }
 
 /// A count of four bytes. Where the count is greater, the sheet is too long to be written.

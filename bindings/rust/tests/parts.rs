@@ -126,6 +126,52 @@ fn every_cut_of_a_text_gives_its_lines() {
     }
 }
 
+/// The number and the bytes of each line, counted by hand: a line feed ends a line, and a line without a byte is blank.
+fn numbered(text: &[u8]) -> Vec<(u64, Vec<u8>)> {
+    let mut cut: Vec<_> = text.split(|&byte| byte == b'\n').map(<[u8]>::to_vec).collect();
+    let ended = cut.len() - 1;
+    for line in &mut cut[..ended] {
+        if line.ends_with(b"\r") {
+            line.pop();
+        }
+    }
+    (1..).zip(cut).filter(|(_, line)| !line.is_empty()).collect()
+}
+
+#[test]
+fn every_line_has_its_number() {
+    let mut parts = Parts::new();
+    for text in (0..=6).flat_map(texts) {
+        let expected = numbered(&text);
+        for cuts in 0..1 << text.len().saturating_sub(1) {
+            let mut seen = Vec::new();
+            for mut part in cut(&text, cuts) {
+                while parts.take(&mut part).is_some() {
+                    seen.push((parts.number(), parts.line().bytes().to_vec()));
+                }
+                assert_eq!(parts.line(), Line(b""));
+            }
+            if parts.end().is_some() {
+                seen.push((parts.number(), parts.line().bytes().to_vec()));
+            }
+            assert_eq!(seen, expected, "{:?}", cut(&text, cuts));
+        }
+    }
+}
+
+#[test]
+fn a_reader_has_the_number_of_a_line_that_is_refused_too() {
+    let text = [b"\n#\r\n", &[b'a'; MOST + 1][..], b"\r\n\n\nb"].concat();
+    let mut reader = Reader::with_capacity(100, &text[..]);
+    let mut seen = Vec::new();
+    while let Some(line) = reader.next_line() {
+        let length = line.map(|line| line.bytes().len()).ok();
+        assert_eq!(reader.line().bytes().len(), length.unwrap_or(0));
+        seen.push((reader.number(), length, reader.is_cut()));
+    }
+    assert_eq!(seen, [(2, Some(1), false), (3, None, false), (6, Some(1), true)]);
+}
+
 #[test]
 fn empty_parts_change_nothing() {
     let mut parts = Parts::new();

@@ -107,6 +107,52 @@ fn the_sum_may_be_the_largest_number_and_no_more() {
 }
 
 #[test]
+fn reports_of_pieces_add_up() {
+    let lines = [
+        "##a\n",
+        "#b\n",
+        "\n",
+        &record(1, 3),
+        &record(9, 8),
+        "c\n",
+        &record(1, 300),
+        "sq0\t.\tg\t0\t1\t.\t.\t.\t.\n",
+    ];
+    let whole = counted(&lines.concat());
+
+    for place in 0..=lines.len() {
+        let (first, second) = lines.split_at(place);
+        let mut both = counted(&first.concat());
+        assert_eq!(both.add(&counted(&second.concat())), Ok(()));
+        assert_eq!(both, whole);
+    }
+}
+
+#[test]
+fn a_sum_that_passes_leaves_the_report_as_it_is() {
+    let mut report = counted(&record(1, u64::MAX));
+    let before = report.clone();
+
+    assert_eq!(report.add(&counted(&record(5, 5))), Err(Refusal::Sum));
+    assert_eq!(report, before);
+    assert_eq!(report.add(&counted(&record(5, 4))), Ok(()));
+    assert_eq!((report.records, report.reversed, report.sum), (2, 1, u64::MAX));
+}
+
+#[test]
+fn lines_too_long_for_a_hold_are_refused_ones() {
+    let mut report = counted("c\n");
+    report.refused_line_too_long = 2;
+
+    assert_eq!((report.refused_lines(), report.lines()), (3, 3));
+    assert!(
+        report
+            .to_string()
+            .contains("by 25         2  the line has more than 65,536 bytes\n")
+    );
+}
+
+#[test]
 fn many_lines() {
     let text = ["##a\n", "#b\n", &record(1, 3), &record(1, 300), "c\n"]
         .concat()

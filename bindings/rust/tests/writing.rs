@@ -1,8 +1,8 @@
 //! What the writers answer at their edges.
 
 use gff3_lines::{
-    Build, Directive, Judged, Line, Phase, Refusal, Region, Sheet, Strand, Value, Version, judge, write_comment,
-    write_directive,
+    Build, Directive, Judged, Line, Phase, Refusal, Region, Sheet, Strand, Value, Version, judge, rewrite_into,
+    write_comment, write_directive,
 };
 
 const LINE: &[u8] = b"sq%200\tl%61b\tCDS\t008\t13\t-1.50e3\t-\t2\ta=1;b;c=x%2Cy,z;d=";
@@ -44,6 +44,34 @@ fn a_line_is_taken_apart() {
             length: 87,
         })
     );
+}
+
+#[test]
+fn a_line_is_written_again_as_by_its_sheet() {
+    let lines = [
+        (
+            LINE,
+            Ok(&b"sq%200\tlab\tCDS\t8\t13\t-1.50e3\t-\t2\ta=1;b%3Bc=x%2Cy,z;d="[..]),
+        ),
+        (b"a\tb\tgene\t1\t2\t.\t.\t.\t", Ok(b"a\tb\tgene\t1\t2\t.\t.\t.\t.")),
+        (b"a\tb\tCDS\t1\t2\t.\t.\t.\t", Err(Refusal::PhaseMissing)),
+        (b"a\tb\tCDS\t1\t2\t.\t.\t.\tx", Err(Refusal::Attribute)),
+        (b"a", Err(Refusal::Columns)),
+    ];
+    let (mut sheet, mut out) = (b"of another line".to_vec(), Vec::new());
+    for (line, expected) in lines {
+        out.clear();
+        out.push(b'>');
+        let written = rewrite_into(line, &mut sheet, &mut out);
+
+        assert_eq!(written.map(|()| &out[1..]), expected);
+        assert_eq!(
+            Sheet::of_line(line).and_then(|sheet| sheet.line()),
+            expected.map(<[u8]>::to_vec)
+        );
+        assert!(written.is_ok() || out == b">");
+        assert_eq!(sheet.len(), judge(line).map_or(0, |judged| judged.length));
+    }
 }
 
 #[test]
