@@ -8,7 +8,9 @@ use std::{
         io::AsRawFd,
     },
     path::{Path, PathBuf},
-    process, thread,
+    process,
+    sync::{Arc, Mutex},
+    thread,
 };
 
 use anyhow::{Context, Result, bail};
@@ -68,12 +70,10 @@ impl Target {
             Some(folder) if folder != Path::new("") => folder,
             _ => Path::new("."),
         };
-        let part = Builder::new().prefix(".gff3.").suffix(".part").tempfile_in(folder)?;
-        let (file, part) = part.into_parts();
-        remove_on_signal(part.to_path_buf())?;
+        let (file, part) = made_in(folder)?;
         match old {
             Some(old) => take_after(&file, old)?,
-            None => file.set_permissions(Permissions::from_mode(0o666 & !own_status("Umask:", 8) as u32))?,
+            None => file.set_permissions(Permissions::from_mode(0o666 & !umask()))?,
         }
         let output = Output::new(name, file);
         Ok(Target::Beside { output, part, path })
@@ -144,15 +144,27 @@ fn take_after(file: &File, old: &Metadata) -> Result<()> {
     Ok(())
 }
 
-/// From now on a signal that ends the command removes this file first. One that is ignored, as under nohup, stays so.
-fn remove_on_signal(part: PathBuf) -> Result<()> {
-    let ignored = own_status("SigIgn:", 16);
+/// A new file in a folder. From now on a signal that ends the command removes it first, or waits until it is there to be removed.
+fn made_in(folder: &Path) -> Result<(File, TempPath)> {
+    let removed_first = Arc::new(Mutex::new(None));
+    remove_on_signal(Arc::clone(&removed_first))?;
+    let mut path = removed_first.lock().expect("no thread panics with it");
+    let part = Builder::new().prefix(".gff3.").suffix(".part").tempfile_in(folder)?;
+    *path = Some(part.path().to_owned());
+    Ok(part.into_parts())
+}
+
+/// A signal that is ignored, as under nohup, stays so.
+fn remove_on_signal(part: Arc<Mutex<Option<PathBuf>>>) -> Result<()> {
+    let ignored = own_status("SigIgn:", 16).unwrap_or(0);
     let ending = [SIGHUP, SIGINT, SIGTERM].into_iter();
     let mut signals = Signals::new(ending.filter(|signal| ignored >> (signal - 1) & 1 == 0))?;
     thread::Builder::new().spawn(move || {
         for signal in signals.forever() {
-            // It may be moved to its place already.
-            let _ = fs::remove_file(&part);
+            if let Ok(Some(part)) = part.lock().map(|mut part| part.take()) {
+                // It may be moved to its place already.
+                let _ = fs::remove_file(part);
+            }
             end_by(signal);
         }
     })?;
@@ -167,11 +179,14 @@ fn end_by(signal: i32) {
     let _ = emulate_default_handler(signal);
 }
 
-/// A number that Linux says of this process; 0 where it says none.
-fn own_status(name: &str, radix: u32) -> u64 {
-    let status = fs::read_to_string("/proc/self/status").unwrap_or_default();
-    let number = status.lines().find_map(|line| line.strip_prefix(name));
-    number
-        .and_then(|number| u64::from_str_radix(number.trim(), radix).ok())
-        .unwrap_or(0)
+/// What a new file is kept from.
+fn umask() -> u32 {
+    own_status("Umask:", 8).map_or(0o022, |mask| mask as u32)
+}
+
+/// A number that Linux says of this process.
+fn own_status(name: &str, radix: u32) -> Option<u64> {
+    let status = fs::read_to_string("/proc/self/status").ok()?;
+    let number = status.lines().find_map(|line| line.strip_prefix(name))?;
+    u64::from_str_radix(number.trim(), radix).ok()
 }
