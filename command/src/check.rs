@@ -119,7 +119,7 @@ impl Checker<'_> {
     fn record(&mut self, number: u64, line: &[u8]) -> Result<()> {
         let judged = judge::record(line, &mut self.notes);
         self.counts.records += u64::from(judged.is_ok());
-        let is_gtf = !self.notes.is_empty() && self.leave_gtf();
+        let is_gtf = !self.notes.is_empty() && self.fold_tags_into_gtf();
         match judged {
             _ if is_gtf && self.gtf != Gtf::NotAll => self.gtf_record(number, line, judged),
             Ok(()) => {
@@ -134,7 +134,7 @@ impl Checker<'_> {
     }
 
     /// Whether the record looks like GTF, which then stands for all that is strange in its tags.
-    fn leave_gtf(&mut self) -> bool {
+    fn fold_tags_into_gtf(&mut self) -> bool {
         let is_gtf = self.is_on(Warning::Gtf) && self.notes.iter().any(|note| note.warning == Warning::Gtf);
         if is_gtf {
             self.notes

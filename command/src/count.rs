@@ -99,7 +99,7 @@ impl Counter {
 
 /// A sheet as a machine reads it.
 #[derive(Serialize)]
-struct Row {
+struct Sheet {
     file: String,
     records: u64,
     reversed: u64,
@@ -112,11 +112,11 @@ struct Row {
     lengths: Vec<u64>,
 }
 
-impl Row {
+impl Sheet {
     fn new(source: &Source, report: &Report) -> Self {
         let by_number = report.refused().map(|(refusal, count)| (refusal.number(), count));
-        Row {
-            file: String::from_utf8_lossy(source.name()).into_owned(),
+        Sheet {
+            file: source.text(),
             records: report.records,
             reversed: report.reversed,
             directives: report.directives,
@@ -149,7 +149,7 @@ impl Row {
 }
 
 fn print(source: &Source, report: &Report, format: Format, out: &mut Vec<u8>) -> Result<()> {
-    let row = Row::new(source, report);
+    let sheet = Sheet::new(source, report);
     match format {
         Format::Text => {
             out.extend(source.shown_name());
@@ -157,13 +157,14 @@ fn print(source: &Source, report: &Report, format: Format, out: &mut Vec<u8>) ->
         }
         Format::Tsv => {
             out.extend(escaped(source.name()));
-            row.columns()
+            sheet
+                .columns()
                 .iter()
                 .for_each(|(_, count)| out.extend_from_slice(format!("\t{count}").as_bytes()));
             out.push(b'\n');
         }
         Format::Json => {
-            serde_json::to_writer(&mut *out, &row)?;
+            serde_json::to_writer(&mut *out, &sheet)?;
             out.push(b'\n');
         }
     }
@@ -171,7 +172,7 @@ fn print(source: &Source, report: &Report, format: Format, out: &mut Vec<u8>) ->
 }
 
 fn tsv_head() -> Result<String> {
-    let names = Row::new(&Source::Standard, &report(b"")?)
+    let names = Sheet::new(&Source::Standard, &report(b"")?)
         .columns()
         .into_iter()
         .map(|(name, _)| format!("\t{name}"));

@@ -111,7 +111,7 @@ impl Summary {
             matters.map(|(matter, count)| (matter.name(), count)).collect()
         };
         Summary {
-            file: String::from_utf8_lossy(source.name()).into_owned(),
+            file: source.text(),
             kind: "summary",
             lines: counts.lines(),
             records: counts.records,

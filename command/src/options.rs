@@ -96,8 +96,8 @@ pub struct Rewrite {
     pub output: Option<PathBuf>,
 
     /// What becomes of a refused line
-    #[arg(long, value_enum, value_name = "WHAT", default_value_t = Refused::Mark)]
-    pub refused: Refused,
+    #[arg(long, value_enum, value_name = "WHAT", default_value_t = Fate::Mark)]
+    pub refused: Fate,
 
     #[command(flatten)]
     pub limits: Limits,
@@ -146,8 +146,9 @@ pub enum Format {
     Json,
 }
 
+/// What becomes of a refused line.
 #[derive(Clone, Copy, PartialEq, Eq, ValueEnum)]
-pub enum Refused {
+pub enum Fate {
     /// `! ` and the number of the reason, as the rewriting program has it
     Mark,
     /// The line as it is

@@ -184,7 +184,7 @@ impl Reporter {
 
     fn say_row(&mut self, finding: &Finding) -> Result<()> {
         self.say_json(&Row {
-            file: String::from_utf8_lossy(self.source.name()).into_owned(),
+            file: self.source.text(),
             line: finding.number,
             kind: finding.matter.kind(),
             name: finding.matter.name(),

@@ -14,7 +14,7 @@ use crate::{
     lines::{Ended, Visitor, each_line},
     long_line::LongLine,
     notes::{self, Note},
-    options::{self, Warning},
+    options::{self, Fate, Warning},
     output::{Output, Unwritten},
     reporter::Reporter,
     source::Source,
@@ -81,7 +81,7 @@ fn unread(source: &Source, error: anyhow::Error, out: &mut Output) -> Result<any
 struct Rewriter<'a> {
     out: &'a mut Output,
     reporter: &'a mut Reporter,
-    refused: options::Refused,
+    refused: Fate,
     sheet: Vec<u8>,
     long_line: LongLine,
     counts: Counts,
@@ -101,7 +101,7 @@ impl Visitor for Rewriter<'_> {
     }
 
     fn taken(&mut self, bytes: &[u8]) -> Result<()> {
-        if self.refused == options::Refused::Keep {
+        if self.refused == Fate::Keep {
             self.long_line.take(bytes, &mut self.out.pending);
             self.spill_if_full()?;
         }
@@ -152,13 +152,13 @@ impl Rewriter<'_> {
     fn refuse(&mut self, number: u64, line: &[u8], refused: Refused) -> Result<()> {
         self.counts.refuse(refused.refusal);
         match self.refused {
-            options::Refused::Mark => self.write_line(format!("! {}", refused.refusal.number()).as_bytes()),
-            options::Refused::Keep if refused.refusal == Refusal::LineTooLong => {
+            Fate::Mark => self.write_line(format!("! {}", refused.refusal.number()).as_bytes()),
+            Fate::Keep if refused.refusal == Refusal::LineTooLong => {
                 self.long_line.finish(&mut self.out.pending);
                 self.out.pending.push(b'\n');
             }
-            options::Refused::Keep => self.write_line(line),
-            options::Refused::Drop => {}
+            Fate::Keep => self.write_line(line),
+            Fate::Drop => {}
         }
         if !self.fasta.is_sequence(line, refused.refusal) {
             return self.reporter.say(&refused.finding(number, line));

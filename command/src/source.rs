@@ -40,6 +40,11 @@ impl Source {
         }
     }
 
+    /// The name as a text, for a machine that reads nothing but texts.
+    pub fn text(&self) -> String {
+        String::from_utf8_lossy(self.name()).into_owned()
+    }
+
     /// The name for the eyes of a person: as it is, but for what a terminal would obey.
     pub fn shown_name(&self) -> Vec<u8> {
         let is_plain = |byte: &u8| !byte.is_ascii_control();
