@@ -5,6 +5,7 @@ use gff3_lines::{Kind, Line, Refusal};
 
 use crate::{
     counts::{Counts, Summary},
+    fasta::Fasta,
     input::Input,
     judge::{self, Refused},
     lines::{Ended, Visitor, each_line},
@@ -14,7 +15,7 @@ use crate::{
     source::Source,
 };
 
-/// Checks each source, and answers whether a line was refused or a warning is grave. A source that cannot be read is handed to `trouble`.
+/// Checks each source, and answers whether a line was refused. A source that cannot be read is handed to `trouble`.
 pub fn check(
     sources: &[Source],
     off: &[Warning],
@@ -39,10 +40,10 @@ pub fn check(
         }
     }
     if count > 1 && reporter.format() == Format::Text {
-        reporter.say_counts(format!("all {count} files"), &all)?;
+        reporter.say_counts(format!("all {count} files").as_bytes(), &all)?;
     }
     reporter.spill()?;
-    Ok(all.is_bad())
+    Ok(all.refused_lines() > 0)
 }
 
 fn check_one(source: &Source, off: &[Warning], reporter: &mut Reporter) -> Result<Counts> {
@@ -54,12 +55,13 @@ fn check_one(source: &Source, off: &[Warning], reporter: &mut Reporter) -> Resul
         counts: Counts::default(),
         notes: Vec::new(),
         gtf: Gtf::Unknown,
+        fasta: Fasta::default(),
     };
-    let ended = each_line(input, checker.is_on(Warning::Fasta), &mut checker)?;
+    let ended = each_line(input, &mut checker)?;
     checker.end(&ended)?;
     let Checker { counts, reporter, .. } = checker;
     match reporter.format() {
-        Format::Text => reporter.say_counts(source, &counts)?,
+        Format::Text => reporter.say_counts(&source.shown_name(), &counts)?,
         Format::Json => reporter.say_json(&Summary::new(source, &counts, reporter.unsaid()))?,
         Format::Tsv => {}
     }
@@ -82,38 +84,26 @@ struct Checker<'a> {
     /// What is to be said of the line at hand.
     notes: Vec<Note>,
     gtf: Gtf,
+    fasta: Fasta,
 }
 
 impl Visitor for Checker<'_> {
-    fn line(&mut self, number: u64, line: Line<'_>) -> Result<()> {
+    fn line(&mut self, number: u64, line: Result<Line<'_>, Refusal>) -> Result<()> {
+        let line = match line {
+            Ok(line) => line,
+            Err(refusal) => return self.refuse(number, b"", Refused::new(refusal)),
+        };
         match line.kind() {
             Kind::Record => return self.record(number, line.bytes()),
             Kind::Comment => self.counts.comments += 1,
             Kind::Directive => {
                 self.counts.directives += 1;
+                self.fasta.see_directive(line);
                 notes::directive(line, &mut self.notes);
             }
         }
         notes::utf8(line.bytes(), &mut self.notes);
         self.warn_all(number, line.bytes())
-    }
-
-    fn long_line(&mut self, number: u64) -> Result<()> {
-        self.refuse(number, b"", Refused::new(Refusal::LineTooLong))
-    }
-
-    /// Of the lines of sequence the first is said.
-    fn sequence(&mut self, number: u64, line: Option<&[u8]>) -> Result<()> {
-        self.counts.sequence += 1;
-        if self.counts.sequence == 1 {
-            self.notes.push(Note::new(Warning::Fasta, None, String::new()));
-        }
-        self.warn_all(number, line.unwrap_or_default())
-    }
-
-    fn carriage_return(&mut self, number: u64, line: &[u8]) -> Result<()> {
-        self.notes.push(notes::carriage_return());
-        self.warn_all(number, line)
     }
 
     fn pause(&mut self) -> Result<()> {
@@ -165,15 +155,25 @@ impl Checker<'_> {
     }
 
     fn refuse(&mut self, number: u64, line: &[u8], refused: Refused) -> Result<()> {
+        if self.is_on(Warning::Fasta) && self.fasta.is_sequence(line, refused.refusal) {
+            return self.sequence(number, line);
+        }
         self.counts.refuse(refused.refusal);
         self.reporter.say(&refused.finding(number, line))
     }
 
+    /// A line of sequence, of which the first is said.
+    fn sequence(&mut self, number: u64, line: &[u8]) -> Result<()> {
+        self.counts.sequence += 1;
+        if self.counts.sequence == 1 {
+            self.notes.push(Note::new(Warning::Fasta, None, String::new()));
+        }
+        self.warn_all(number, line)
+    }
+
     fn end(&mut self, ended: &Ended) -> Result<()> {
         self.notes.extend(notes::end(ended));
-        self.warn_all(ended.last, b"")?;
-        self.notes.extend(notes::no_records(&self.counts, ended));
-        self.warn_all(0, b"")
+        self.warn_all(ended.last, b"")
     }
 
     /// Says what is noted, but for what is switched off.

@@ -1,110 +1,86 @@
 //! `gff3 count`: the morning's sheet of a file, by the library's report.
 
-use std::collections::BTreeMap;
+use std::{collections::BTreeMap, mem};
 
 use anyhow::Result;
 use gff3_lines::{Line, Refusal, Report, report};
 use serde::Serialize;
 
 use crate::{
-    counts::Counts,
     input::Input,
-    lines::{Ended, Visitor, each_line},
-    notes::{self, Note},
+    lines::{Visitor, each_line},
     options::Format,
     output::Output,
-    reporter::{Reporter, escaped, write_json},
-    shown::Look,
+    reporter::escaped,
     source::Source,
 };
 
 /// Lines are counted so many bytes at a time.
 const BLOCK: usize = 128 << 10;
 
-/// Counts each source, and answers whether anything was refused, or a warning is grave. A source that cannot be counted is handed to
-/// `trouble`.
+/// Counts each source, and answers whether anything was refused. A source that cannot be counted is handed to `trouble`.
 pub fn count(
     sources: &[Source],
-    sheets: &mut Sheets,
-    reporter: &mut Reporter,
+    format: Format,
+    out: &mut Output,
     trouble: &mut impl FnMut(&Source, anyhow::Error) -> Result<()>,
 ) -> Result<bool> {
-    let mut is_bad = false;
-    sheets.head()?;
+    let mut is_refused = false;
+    if format == Format::Tsv {
+        out.pending.extend_from_slice(tsv_head()?.as_bytes());
+    }
+    let mut is_first = true;
     for source in sources {
-        match count_one(source, reporter) {
-            Ok((report, counts)) => {
-                is_bad |= counts.is_bad();
-                sheets.print(source, &report)?;
+        match count_one(source) {
+            Ok(report) => {
+                is_refused |= report.refused_lines() > 0;
+                if format == Format::Text && !mem::take(&mut is_first) {
+                    out.pending.push(b'\n');
+                }
+                print(source, &report, format, &mut out.pending)?;
             }
             Err(error) => {
-                is_bad |= error.is::<Refusal>();
-                reporter.spill()?;
-                sheets.out.spill()?;
+                is_refused |= error.is::<Refusal>();
+                out.spill()?;
                 trouble(source, error)?;
             }
         }
-        sheets.out.spill()?;
-        reporter.spill()?;
+        out.spill()?;
     }
-    Ok(is_bad)
+    Ok(is_refused)
 }
 
-fn count_one(source: &Source, reporter: &mut Reporter) -> Result<(Report, Counts)> {
-    let input = Input::open(source)?;
-    reporter.begin(source, &input.bar);
+fn count_one(source: &Source) -> Result<Report> {
     let mut counter = Counter {
         report: report(b"")?,
         block: Vec::new(),
-        reporter,
-        warned: Counts::default(),
     };
-    let ended = each_line(input, true, &mut counter)?;
+    each_line(Input::open(source)?, &mut counter)?;
     counter.count_block()?;
-    let counts = counter.end(&ended)?;
-    Ok((counter.report, counts))
+    Ok(counter.report)
 }
 
-/// The report of the lines that are counted, and those that are not counted yet. Grave warnings are said, and counted beside it.
-struct Counter<'a> {
+/// The report of the lines that are counted, and those that are not counted yet.
+struct Counter {
     report: Report,
     block: Vec<u8>,
-    reporter: &'a mut Reporter,
-    warned: Counts,
 }
 
-impl Visitor for Counter<'_> {
-    fn line(&mut self, number: u64, line: Line<'_>) -> Result<()> {
-        let line = line.bytes();
-        if line[0] != b'#' {
-            if let Some(note) = notes::joined(line) {
-                self.warn(number, line, note)?;
-            }
+impl Visitor for Counter {
+    fn line(&mut self, _number: u64, line: Result<Line<'_>, Refusal>) -> Result<()> {
+        match line {
+            Ok(line) => self.put(line.bytes()),
+            Err(_) => self.report.refused_line_too_long += 1,
         }
-        self.put(line);
         if self.block.len() >= BLOCK {
             self.count_block()
         } else {
             Ok(())
         }
     }
-
-    fn long_line(&mut self, _number: u64) -> Result<()> {
-        self.report.refused_line_too_long += 1;
-        Ok(())
-    }
-
-    fn sequence(&mut self, _number: u64, _line: Option<&[u8]>) -> Result<()> {
-        self.report.sequence += 1;
-        Ok(())
-    }
-
-    fn carriage_return(&mut self, number: u64, line: &[u8]) -> Result<()> {
-        self.warn(number, line, notes::carriage_return())
-    }
 }
 
-impl Counter<'_> {
+impl Counter {
     /// A line that ends with a carriage return has had another behind it, or no line feed. It gets one, so that it is read as it is.
     fn put(&mut self, line: &[u8]) {
         self.block.extend_from_slice(line);
@@ -119,22 +95,6 @@ impl Counter<'_> {
         self.block.clear();
         Ok(())
     }
-
-    fn warn(&mut self, number: u64, line: &[u8], note: Note) -> Result<()> {
-        self.warned.warn(note.warning);
-        self.reporter.say(&note.finding(number, line))
-    }
-
-    /// All counts, with the warnings.
-    fn end(&mut self, ended: &Ended) -> Result<Counts> {
-        let counts = Counts::from(&self.report);
-        if let Some(note) = notes::no_records(&counts, ended) {
-            self.warn(0, b"", note)?;
-        }
-        self.reporter.say_unsaid()?;
-        self.warned.add(&counts);
-        Ok(self.warned.clone())
-    }
 }
 
 /// A sheet as a machine reads it.
@@ -145,7 +105,6 @@ struct Sheet {
     reversed: u64,
     directives: u64,
     comments: u64,
-    sequence: u64,
     refused: u64,
     refused_by: BTreeMap<u32, u64>,
     lines: u64,
@@ -162,7 +121,6 @@ impl Sheet {
             reversed: report.reversed,
             directives: report.directives,
             comments: report.comments,
-            sequence: report.sequence,
             refused: report.refused_lines(),
             refused_by: by_number.into_iter().collect(),
             lines: report.lines(),
@@ -179,7 +137,6 @@ impl Sheet {
             named("reversed", self.reversed),
             named("directives", self.directives),
             named("comments", self.comments),
-            named("sequence", self.sequence),
             named("refused", self.refused),
         ];
         let by_number = self.refused_by.iter();
@@ -191,52 +148,33 @@ impl Sheet {
     }
 }
 
-/// The sheets of all sources, as they are printed.
-pub struct Sheets {
-    out: Output,
-    format: Format,
-    look: Look,
-    is_begun: bool,
+fn print(source: &Source, report: &Report, format: Format, out: &mut Vec<u8>) -> Result<()> {
+    let sheet = Sheet::new(source, report);
+    match format {
+        Format::Text => {
+            out.extend(source.shown_name());
+            out.extend_from_slice(format!("\n{report}").as_bytes());
+        }
+        Format::Tsv => {
+            out.extend(escaped(source.name()));
+            sheet
+                .columns()
+                .iter()
+                .for_each(|(_, count)| out.extend_from_slice(format!("\t{count}").as_bytes()));
+            out.push(b'\n');
+        }
+        Format::Json => {
+            serde_json::to_writer(&mut *out, &sheet)?;
+            out.push(b'\n');
+        }
+    }
+    Ok(())
 }
 
-impl Sheets {
-    pub fn new(out: Output, format: Format, look: Look) -> Self {
-        Sheets {
-            out,
-            format,
-            look,
-            is_begun: false,
-        }
-    }
-
-    /// What names the columns.
-    fn head(&mut self) -> Result<()> {
-        if self.format == Format::Tsv {
-            let columns = Sheet::new(&Source::Standard, &report(b"")?).columns();
-            let names = columns.into_iter().map(|(name, _)| format!("\t{name}"));
-            self.out
-                .pending
-                .extend_from_slice(format!("file{}\n", names.collect::<String>()).as_bytes());
-        }
-        Ok(())
-    }
-
-    fn print(&mut self, source: &Source, report: &Report) -> Result<()> {
-        let sheet = Sheet::new(source, report);
-        let out = &mut self.out.pending;
-        match self.format {
-            Format::Text => {
-                let between = if self.is_begun { "\n" } else { "" };
-                out.extend_from_slice(format!("{between}{source}\n{report}").as_bytes());
-            }
-            Format::Tsv => {
-                let counts = sheet.columns().into_iter().map(|(_, count)| format!("\t{count}"));
-                out.extend(escaped(source.name(), self.look));
-                out.extend_from_slice(format!("{}\n", counts.collect::<String>()).as_bytes());
-            }
-            Format::Json => write_json(&sheet, out)?,
-        }
-        self.is_begun = true;
-        Ok(())
-    }
+fn tsv_head() -> Result<String> {
+    let names = Sheet::new(&Source::Standard, &report(b"")?)
+        .columns()
+        .into_iter()
+        .map(|(name, _)| format!("\t{name}"));
+    Ok(format!("file{}\n", names.collect::<String>()))
 }

@@ -2,7 +2,7 @@
 
 use std::collections::BTreeMap;
 
-use gff3_lines::{Refusal, Report};
+use gff3_lines::Refusal;
 use serde::Serialize;
 
 use crate::{findings::Matter, options::Warning, source::Source};
@@ -13,26 +13,11 @@ pub struct Counts {
     pub records: u64,
     pub directives: u64,
     pub comments: u64,
-    /// Lines of sequence.
+    /// Lines behind `##FASTA` that are no records.
     pub sequence: u64,
     /// By the number of the refusal.
     refused: BTreeMap<u32, u64>,
     warnings: [u64; Warning::ALL.len()],
-}
-
-/// The counts of the library's report.
-impl From<&Report> for Counts {
-    fn from(report: &Report) -> Self {
-        let refused = report.refused().into_iter().filter(|&(_, count)| count > 0);
-        Counts {
-            records: report.records,
-            directives: report.directives,
-            comments: report.comments,
-            sequence: report.sequence,
-            refused: refused.map(|(refusal, count)| (refusal.number(), count)).collect(),
-            ..Counts::default()
-        }
-    }
 }
 
 impl Counts {
@@ -61,24 +46,6 @@ impl Counts {
         self.refused.values().sum()
     }
 
-    /// How many warnings are grave, or are not.
-    fn warned(&self, is_grave: bool) -> u64 {
-        let warnings = Warning::ALL.iter().zip(self.warnings);
-        warnings
-            .filter(|(warning, _)| warning.is_grave() == is_grave)
-            .map(|(_, count)| count)
-            .sum()
-    }
-
-    pub fn grave_warnings(&self) -> u64 {
-        self.warned(true)
-    }
-
-    /// Whether the status is to tell of it.
-    pub fn is_bad(&self) -> bool {
-        self.refused_lines() + self.grave_warnings() > 0
-    }
-
     fn lines(&self) -> u64 {
         self.records + self.directives + self.comments + self.sequence + self.refused_lines()
     }
@@ -105,11 +72,7 @@ impl Counts {
         let mut all: Vec<_> = kinds.map(|&(count, one, many)| counted(count, one, many)).collect();
         all.push(format!("{} refused", self.refused_lines()));
         let lines = counted(self.lines(), "line", "lines");
-        let mut warnings = counted(self.warned(false), "warning", "warnings");
-        if self.grave_warnings() > 0 {
-            let grave = counted(self.grave_warnings(), "grave warning", "grave warnings");
-            warnings = format!("{grave}, {warnings}");
-        }
+        let warnings = counted(self.warnings.iter().sum(), "warning", "warnings");
         format!("{lines}: {}; {warnings}", all.join(", "))
     }
 
@@ -136,15 +99,15 @@ pub struct Summary {
     sequence: u64,
     refused: u64,
     refused_by: BTreeMap<String, u64>,
-    grave: BTreeMap<String, u64>,
     warnings: BTreeMap<String, u64>,
     unsaid: u64,
 }
 
 impl Summary {
     pub fn new(source: &Source, counts: &Counts, unsaid: u64) -> Self {
-        let by_name = |kind: &str| {
-            let matters = counts.matters().filter(|(matter, _)| matter.kind() == kind);
+        let by_name = |is_refused: bool| {
+            let matters = counts.matters();
+            let matters = matters.filter(|(matter, _)| matches!(matter, Matter::Refused(_)) == is_refused);
             matters.map(|(matter, count)| (matter.name(), count)).collect()
         };
         Summary {
@@ -156,9 +119,8 @@ impl Summary {
             comments: counts.comments,
             sequence: counts.sequence,
             refused: counts.refused_lines(),
-            refused_by: by_name("refused"),
-            grave: by_name("grave"),
-            warnings: by_name("warning"),
+            refused_by: by_name(true),
+            warnings: by_name(false),
             unsaid,
         }
     }

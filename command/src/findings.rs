@@ -7,7 +7,7 @@ use gff3_lines::{Column, Refusal};
 use crate::options::Warning;
 
 /// What is the matter with a line.
-#[derive(Clone, Copy, PartialEq, Eq, Hash)]
+#[derive(Clone, Copy, PartialEq, Eq)]
 pub enum Matter {
     Refused(Refusal),
     Warning(Warning),
@@ -17,7 +17,6 @@ impl Matter {
     pub fn kind(self) -> &'static str {
         match self {
             Matter::Refused(_) => "refused",
-            Matter::Warning(warning) if warning.is_grave() => "grave",
             Matter::Warning(_) => "warning",
         }
     }
@@ -34,7 +33,6 @@ impl Matter {
     pub fn title(self) -> String {
         match self {
             Matter::Refused(refusal) => format!("refused by {}", refusal.number()),
-            Matter::Warning(warning) if warning.is_grave() => format!("grave warning {}", warning.name()),
             Matter::Warning(warning) => format!("warning {}", warning.name()),
         }
     }
@@ -54,7 +52,6 @@ impl Matter {
 /// Something that is found in a line.
 pub struct Finding<'a> {
     pub matter: Matter,
-    /// The line's, or 0 for what is the matter with a file.
     pub number: u64,
     pub column: Option<Column>,
     /// What it is about: a short text of the line.

@@ -1,18 +1,17 @@
 //! The bytes of a source, unpacked where it is compressed, in chunks. One thread reads and unpacks, another takes the chunks.
 
 use std::{
+    fs::Metadata,
     io::{self, BufReader, Cursor, Read, Write},
     sync::mpsc::{self, Receiver, Sender, SyncSender, TryRecvError},
     thread,
 };
 
-use anyhow::{Context, Result};
+use anyhow::{Context, Result, bail};
+use flate2::bufread::MultiGzDecoder;
 use indicatif::{ProgressBar, ProgressStyle};
 
-use crate::{
-    packing::{self, Members},
-    source::{Opened, Source},
-};
+use crate::{packing, packing::Ends, source::Source};
 
 /// The bytes of a chunk, and how many may wait: enough that neither thread waits for a short pause of the other.
 const CHUNK: usize = 128 << 10;
@@ -32,6 +31,7 @@ enum Message {
 pub struct Input {
     messages: Receiver<Message>,
     used: Sender<Vec<u8>>,
+    pub metadata: Metadata,
     /// Hidden where there is nothing to show, or no terminal to show it on.
     pub bar: ProgressBar,
 }
@@ -45,24 +45,20 @@ pub trait Sink {
 }
 
 impl Input {
-    /// Opens a source, and begins to read it.
     pub fn open(source: &Source) -> Result<Self> {
-        Input::start(source, source.open()?, true)
-    }
-
-    /// Begins to read what was opened. Whether there may be a bar is to be known before: the thread that reads draws it.
-    pub fn start(source: &Source, opened: Opened, with_bar: bool) -> Result<Self> {
+        let file = source.open()?;
+        let metadata = file.metadata()?;
+        if metadata.is_dir() {
+            bail!("is a folder");
+        }
         if source.is_typed() {
             // Where nobody hears it, the reading goes on all the same.
             let _ = writeln!(io::stderr(), "gff3: reading standard input, up to Ctrl-D");
         }
-        let bar = match opened.length() {
-            Some(bytes) if with_bar && bytes >= LARGE => progress_bar(bytes),
-            _ => ProgressBar::hidden(),
-        };
+        let bar = progress_bar(if metadata.is_file() { metadata.len() } else { 0 });
         let (to_taker, messages) = mpsc::sync_channel(CHUNKS);
         let (used, from_taker) = mpsc::channel();
-        let raw = bar.wrap_read(opened.file);
+        let raw = bar.wrap_read(file);
         thread::Builder::new()
             .spawn(move || {
                 let last = match read(raw, &to_taker, &from_taker) {
@@ -73,7 +69,12 @@ impl Input {
                 let _ = to_taker.send(last);
             })
             .context("no thread can be started")?;
-        Ok(Input { messages, used, bar })
+        Ok(Input {
+            messages,
+            used,
+            metadata,
+            bar,
+        })
     }
 
     /// Hands all chunks to a sink, and answers whether what marks the end of a bgzip file is missing.
@@ -108,6 +109,9 @@ impl Input {
 }
 
 fn progress_bar(bytes: u64) -> ProgressBar {
+    if bytes < LARGE {
+        return ProgressBar::hidden();
+    }
     let style = ProgressStyle::with_template("{wide_bar} {bytes} of {total_bytes}, {eta} left");
     match style {
         Ok(style) => ProgressBar::new(bytes).with_style(style),
@@ -116,35 +120,25 @@ fn progress_bar(bytes: u64) -> ProgressBar {
 }
 
 /// Reads and unpacks all, and answers whether what marks the end of a bgzip file is missing.
-fn read(raw: impl Read, out: &SyncSender<Message>, used: &Receiver<Vec<u8>>) -> io::Result<bool> {
-    let (packer, mut bytes) = looked_at(raw)?;
-    match packer {
-        None => send_all(&mut bytes, out, used).map(|()| false),
-        Some(packing::GZIP) => {
-            let mut members = Members::new(BufReader::with_capacity(CHUNK, bytes));
-            let (inner, mut text) = looked_at(&mut members)?;
-            match inner {
-                None => send_all(&mut text, out, used)?,
-                Some(inner) => return Err(unread(&format!("{inner}, and then by gzip"))),
-            }
-            drop(text);
-            Ok(members.is_cut())
-        }
-        Some(packer) => Err(unread(packer)),
-    }
-}
-
-/// Bytes from their first one on, and which packer they are by, as the first ones tell.
-fn looked_at(mut bytes: impl Read) -> io::Result<(Option<&'static str>, impl Read)> {
-    let (first, is_ended) = packing::first_bytes(&mut bytes)?;
+fn read(mut raw: impl Read, out: &SyncSender<Message>, used: &Receiver<Vec<u8>>) -> io::Result<bool> {
+    let (first, is_ended) = packing::first_bytes(&mut raw)?;
     let packer = packing::packer(&first);
-    let rest = bytes.take(if is_ended { 0 } else { u64::MAX });
-    Ok((packer, Cursor::new(first).chain(rest)))
-}
-
-fn unread(packers: &str) -> io::Error {
-    let words = format!("is compressed by {packers}, which is not read here: unpack it first");
-    io::Error::new(io::ErrorKind::Unsupported, words)
+    let rest = raw.take(if is_ended { 0 } else { u64::MAX });
+    let mut whole = Cursor::new(first).chain(rest);
+    match packer {
+        None => send_all(&mut whole, out, used).map(|()| false),
+        Some(packing::GZIP) => {
+            let mut ends = Ends::new(whole);
+            let mut text = MultiGzDecoder::new(BufReader::with_capacity(CHUNK, &mut ends));
+            let sent = send_all(&mut text, out, used);
+            sent.map_err(|error| packing::in_words(error, ends.is_ended))?;
+            Ok(ends.is_cut())
+        }
+        Some(other) => Err(io::Error::new(
+            io::ErrorKind::Unsupported,
+            format!("is compressed by {other}, which is not read here: unpack it first"),
+        )),
+    }
 }
 
 /// Sends a text in chunks, each as soon as it is read.

@@ -4,6 +4,7 @@
 mod check;
 mod count;
 mod counts;
+mod fasta;
 mod findings;
 mod input;
 mod judge;
@@ -14,11 +15,8 @@ mod notes;
 mod options;
 mod output;
 mod packing;
-mod part;
-mod process;
 mod reporter;
 mod rewrite;
-mod sequence;
 mod shown;
 mod source;
 mod streams;
@@ -34,11 +32,10 @@ use clap::{CommandFactory, Parser};
 use console::Term;
 use gff3_lines::Refusal;
 
-use count::Sheets;
-use options::{Color, Command, Format, Limits, Options};
+use options::{Color, Command, Format, Options};
 use output::{Output, Unwritten};
 use reporter::Reporter;
-use shown::{Look, shown};
+use shown::Look;
 use source::Source;
 
 /// How the command ends, as `options::STATUS` says it; and as a command does that a closed pipe ends.
@@ -48,27 +45,13 @@ const TROUBLE: u8 = 2;
 const CLOSED: u8 = 141;
 
 fn main() -> ExitCode {
-    let options = match Options::try_parse() {
-        Ok(options) => options,
-        Err(error) => return misunderstood(&error),
-    };
+    let options = Options::parse();
     let mut status = FINE;
     let done = run(options, &mut status);
     ExitCode::from(match done {
         Ok(is_refused) => status.max(if is_refused { REFUSED } else { FINE }),
         Err(error) => end(&error),
     })
-}
-
-/// Says a call for help, or the words that the command does not know: without a byte of them that a terminal would obey.
-fn misunderstood(error: &clap::Error) -> ExitCode {
-    let text = error.to_string();
-    let safe: String = text.lines().map(|line| shown(line.as_bytes()) + "\n").collect();
-    if !error.use_stderr() || safe.trim_end() == text.trim_end() {
-        error.exit();
-    }
-    let _ = io::stderr().write_all(safe.as_bytes());
-    ExitCode::from(TROUBLE)
 }
 
 /// The status for an error that ends the command, which is said unless nobody listens.
@@ -111,9 +94,7 @@ fn run(options: Options, status: &mut u8) -> Result<bool> {
         }
         Command::Count(count) => {
             let sources = Source::all(&count.files);
-            let mut reporter = Reporter::new(Output::error()?, Format::Text, Limits::default(), err);
-            let mut sheets = Sheets::new(Output::standard()?, count.format, out);
-            count::count(&sources, &mut sheets, &mut reporter, &mut trouble)
+            count::count(&sources, count.format, &mut Output::standard()?, &mut trouble)
         }
         Command::Completions { shell } => print(|out| {
             clap_complete::generate(shell, &mut Options::command(), "gff3", out);
@@ -124,7 +105,6 @@ fn run(options: Options, status: &mut u8) -> Result<bool> {
 
 fn look(color: Color, term: &Term, auto: bool) -> Look {
     Look {
-        is_terminal: term.is_term(),
         width: usize::from(term.size().1),
         colors: match color {
             Color::Auto => auto,

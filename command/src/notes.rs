@@ -5,7 +5,6 @@ use std::str;
 use gff3_lines::{Attributes, Build, Column, Line, Record, Refusal, Region, Version, decode};
 
 use crate::{
-    counts::Counts,
     findings::{Finding, Matter},
     lines::Ended,
     options::Warning,
@@ -42,15 +41,10 @@ impl Note {
 /// A record that is not refused, but for its tags.
 pub fn record(record: &Record, notes: &mut Vec<Note>) {
     let (line, bounds) = (record.line(), record.bounds());
-    let columns = 9 + memchr::memchr_iter(b'\t', &line[bounds.phase_end..]).count();
-    match columns {
-        ..=9 => {}
-        10..=16 => notes.push(Note::new(
-            Warning::ExtraColumns,
-            Column::Attributes,
-            format!("{columns} of them"),
-        )),
-        _ => notes.extend(joined(line)),
+    let tabs = memchr::memchr_iter(b'\t', &line[bounds.phase_end..]).count();
+    if tabs > 0 {
+        let what = format!("{} of them", 9 + tabs);
+        notes.push(Note::new(Warning::ExtraColumns, Column::Attributes, what));
     }
     if let (Ok(start), Ok(end)) = (record.start(), record.end()) {
         if start > end {
@@ -64,36 +58,6 @@ pub fn record(record: &Record, notes: &mut Vec<Note>) {
         notes.push(Note::new(Warning::Percent, None, quoted(stray)));
     }
     utf8(line, notes);
-}
-
-/// The tabs of a text. Sums that fit in a byte the compiler makes many of at once.
-fn tabs(text: &[u8]) -> usize {
-    let sum = |piece: &[u8]| piece.iter().map(|&byte| u8::from(byte == b'\t')).sum::<u8>();
-    let pieces = text.chunks(usize::from(u8::MAX));
-    pieces.map(|piece| usize::from(sum(piece))).sum()
-}
-
-/// A record that has the columns of two, since a line feed between them became another byte.
-pub fn joined(line: &[u8]) -> Option<Note> {
-    let columns = 1 + tabs(line);
-    (columns >= 17).then(|| Note::new(Warning::Joined, Column::Attributes, format!("{columns} columns")))
-}
-
-pub fn carriage_return() -> Note {
-    Note::new(Warning::CarriageReturn, None, String::new())
-}
-
-/// A file that has no record, and no refused line that might be one.
-pub fn no_records(counts: &Counts, ended: &Ended) -> Option<Note> {
-    let what = match (counts.directives + counts.comments, counts.sequence) {
-        _ if counts.records + counts.refused_lines() > 0 => return None,
-        _ if ended.is_empty => "it is empty",
-        (0, 0) => "all lines are blank",
-        (_, 0) => "directives and comments are all there is",
-        (0, _) => "sequence is all there is",
-        _ => "directives, comments and sequence are all there is",
-    };
-    Some(Note::new(Warning::NoRecords, None, what.to_owned()))
 }
 
 /// Each attribute of column 9. Of tags that are strange in the same way the first is noted.

@@ -1,6 +1,6 @@
 //! The words of the command line. The help, the manual page and the completions are all made of these.
 
-use std::{num::ParseIntError, path::PathBuf};
+use std::path::PathBuf;
 
 use clap::{Args, Parser, Subcommand, ValueEnum, builder::PossibleValue};
 use clap_complete::Shell;
@@ -22,18 +22,17 @@ pub struct Options {
 
 /// How the command ends.
 pub const STATUS: &str = "\
-Status: 0 where no line is refused and no warning is grave, 1 where one is; in `rewrite` 1 also where the end of the input is missing; \
-2 for trouble: a file that cannot be read, an output that cannot be written, compressed data that is cut off.";
+Status: 0 where no line is refused, 1 where one is, 2 for trouble: a file that cannot be read, an output that cannot be written, \
+compressed data that is cut off.";
 
 /// Calls that are made often.
 pub const EXAMPLES: &str = "\
 Examples:
   gff3 check panel.gff3.gz
-  gff3 check --off cut,percent --max all *.gff3
+  gff3 check --off cut,percent --max 20 *.gff3
   gff3 check --format tsv panel.gff3 | cut -f 2,5,6
   gff3 rewrite panel.gff3 -o panel.gff3
-  gff3 rewrite --refused comment panel.gff3 -o clean.gff3
-  gff3 rewrite panel.gff3.gz | bgzip >again.gff3.gz
+  gff3 rewrite --refused drop panel.gff3.gz | bgzip >clean.gff3.gz
   gff3 count *.gff3";
 
 #[derive(Subcommand)]
@@ -41,20 +40,18 @@ pub enum Command {
     /// Says which lines are refused, and why, and what a person would want to know before ordering
     ///
     /// Each refused line is said with its number, its column, the reason and its text; then warnings, for what the rules let pass; at the
-    /// end the counts, by reason. Only a grave warning changes the status: there is no record, or lines look as if they had been joined.
+    /// end the counts, by reason. Warnings do not change the status.
     Check(Check),
 
     /// Writes each record again in one agreed form, and leaves every other line as it is
     ///
-    /// Sequence is copied as it is. A refused line is said on standard error. OUT gets its name when it is whole; it may be FILE. Where a
-    /// line is refused, a warning is grave or the end of the input is missing, OUT is left as it was, unless `--refused` says what becomes
-    /// of refused lines.
+    /// A refused line is said on standard error. OUT is written beside its place and moved there when it is whole; it may be FILE.
     Rewrite(Rewrite),
 
     /// The morning's sheet: lines by what they are, and how long the records are
     ///
-    /// For each file its records, directives, comments, lines of sequence and refused lines, the exact sum of the lengths of its records,
-    /// and a bar for each power of two in which lengths lie. Grave warnings are said on standard error.
+    /// For each file its records, directives, comments and refused lines, the exact sum of the lengths of its records, and a bar for each
+    /// power of two in which lengths lie.
     Count(Count),
 
     /// Writes a script that completes the words of this command in a shell
@@ -98,17 +95,9 @@ pub struct Rewrite {
     #[arg(short, long, value_name = "OUT")]
     pub output: Option<PathBuf>,
 
-    /// What becomes of a refused line, and that OUT is to be written although there is one
-    ///
-    /// If it is not given, refused lines are marked on standard output, where a last line without a line feed stays without one.
-    #[arg(long, value_enum, value_name = "WHAT")]
-    pub refused: Option<Fate>,
-
-    /// Write what the proved program writes, byte for byte
-    ///
-    /// Every refused line is marked, lines of sequence too, and the last line has a line feed.
-    #[arg(long, conflicts_with = "refused")]
-    pub as_program: bool,
+    /// What becomes of a refused line
+    #[arg(long, value_enum, value_name = "WHAT", default_value_t = Fate::Mark)]
+    pub refused: Fate,
 
     #[command(flatten)]
     pub limits: Limits,
@@ -126,25 +115,15 @@ pub struct Count {
 }
 
 /// How much is said of what is found.
-#[derive(Args, Clone, Copy, Default)]
+#[derive(Args, Clone, Copy)]
 pub struct Limits {
-    /// Say at most N lines of a file for each reason, or `all`; every line is counted
-    ///
-    /// For people it is 100 if it is not given, and `all` for machines.
-    #[arg(long, value_name = "N", value_parser = most)]
-    pub max: Option<u64>,
+    /// Say at most N lines of each file; all are counted
+    #[arg(long, value_name = "N", default_value_t = u64::MAX, hide_default_value = true)]
+    pub max: u64,
 
-    /// Say nothing of lines: the status tells
+    /// Say nothing: the status tells
     #[arg(short, long)]
     pub quiet: bool,
-}
-
-/// A number of lines, or all.
-fn most(text: &str) -> Result<u64, String> {
-    match text {
-        "all" => Ok(u64::MAX),
-        _ => text.parse().map_err(|error: ParseIntError| error.to_string()),
-    }
 }
 
 #[derive(Clone, Copy, PartialEq, Eq, ValueEnum)]
@@ -172,8 +151,6 @@ pub enum Format {
 pub enum Fate {
     /// `! ` and the number of the reason, as the rewriting program has it
     Mark,
-    /// The line behind `# refused by` and the number, as a comment
-    Comment,
     /// The line as it is
     Keep,
     /// Nothing
@@ -181,11 +158,8 @@ pub enum Fate {
 }
 
 /// What the rules let pass, and a person would want to know. Each is said by its name.
-#[derive(Clone, Copy, Debug, PartialEq, Eq, Hash)]
+#[derive(Clone, Copy, Debug, PartialEq, Eq)]
 pub enum Warning {
-    NoRecords,
-    CarriageReturn,
-    Joined,
     TagSemicolon,
     TagSpace,
     ExtraColumns,
@@ -200,10 +174,7 @@ pub enum Warning {
 }
 
 impl Warning {
-    pub const ALL: [Warning; 14] = [
-        Warning::NoRecords,
-        Warning::CarriageReturn,
-        Warning::Joined,
+    pub const ALL: [Warning; 11] = [
         Warning::TagSemicolon,
         Warning::TagSpace,
         Warning::ExtraColumns,
@@ -217,16 +188,8 @@ impl Warning {
         Warning::Cut,
     ];
 
-    /// Whether records may be missing, so that the status is not 0.
-    pub fn is_grave(self) -> bool {
-        matches!(self, Warning::NoRecords | Warning::CarriageReturn | Warning::Joined)
-    }
-
     pub fn name(self) -> &'static str {
         match self {
-            Warning::NoRecords => "no-records",
-            Warning::CarriageReturn => "carriage-return",
-            Warning::Joined => "joined",
             Warning::TagSemicolon => "tag-semicolon",
             Warning::TagSpace => "tag-space",
             Warning::ExtraColumns => "extra-columns",
@@ -243,9 +206,6 @@ impl Warning {
 
     pub fn words(self) -> &'static str {
         match self {
-            Warning::NoRecords => "there is no record",
-            Warning::CarriageReturn => "a carriage return stands inside the line, as if it were to end it",
-            Warning::Joined => "a second record stands in column 9, as if a line feed were lost",
             Warning::TagSemicolon => "a tag holds a semicolon",
             Warning::TagSpace => "a tag begins or ends with a space",
             Warning::ExtraColumns => "more than nine columns, folded into column 9",
@@ -255,7 +215,7 @@ impl Warning {
             Warning::Percent => "a percent sign begins no escape",
             Warning::Utf8 => "bytes that are not UTF-8",
             Warning::Directive => "a version other than 3, or the value of a directive is not valid",
-            Warning::Fasta => "sequence, whose lines are not GFF3",
+            Warning::Fasta => "sequence behind ##FASTA, whose lines are not GFF3",
             Warning::Cut => "the end is missing: the transfer may have been cut off",
         }
     }

@@ -4,14 +4,10 @@ use std::{
     error, fmt,
     fs::{File, Metadata},
     io::{self, Write},
-    os::unix::{
-        fs::MetadataExt,
-        io::{AsFd, AsRawFd},
-    },
+    os::unix::{fs::MetadataExt, io::AsFd},
 };
 
 use anyhow::Result;
-use nix::unistd::isatty;
 
 use crate::streams;
 
@@ -86,20 +82,6 @@ impl Output {
     pub fn is_same(&self, other: &Metadata) -> Result<bool> {
         let own = self.file.metadata()?;
         Ok((own.dev(), own.ino()) == (other.dev(), other.ino()))
-    }
-
-    pub fn name(&self) -> &str {
-        &self.name
-    }
-
-    /// Whether it is a terminal.
-    pub fn is_terminal(&self) -> bool {
-        isatty(self.file.as_raw_fd()).unwrap_or(false)
-    }
-
-    /// The file, where something is to be done with it besides writing.
-    pub fn file(&self) -> &File {
-        &self.file
     }
 
     /// Makes sure that what was written is on the disk.

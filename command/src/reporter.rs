@@ -1,6 +1,6 @@
 //! What is found, said for people or for machines.
 
-use std::{borrow::Cow, collections::HashMap, fmt::Display, mem};
+use std::{borrow::Cow, mem};
 
 use anyhow::Result;
 use indicatif::ProgressBar;
@@ -11,15 +11,12 @@ use crate::{
     findings::{Finding, Matter},
     options::{Format, Limits},
     output::Output,
-    shown::{Look, cut_line, shown},
+    shown::{Look, cut_line},
     source::Source,
 };
 
 /// What stands before the text of a line.
 const MARGIN: &str = "    ";
-
-/// As many lines are said for each reason, for people.
-const MOST: u64 = 100;
 
 /// The columns of `--format tsv`.
 pub const TSV_HEAD: &str = "file\tline\tkind\tname\tcolumn\treason\ttext";
@@ -44,8 +41,7 @@ pub struct Reporter {
     look: Look,
     source: Source,
     bar: ProgressBar,
-    /// How many lines were found for each reason, and how many of them were not said.
-    found: HashMap<Matter, u64>,
+    said: u64,
     unsaid: u64,
 }
 
@@ -58,7 +54,7 @@ impl Reporter {
             look,
             source: Source::Standard,
             bar: ProgressBar::hidden(),
-            found: HashMap::new(),
+            said: 0,
             unsaid: 0,
         }
     }
@@ -67,17 +63,16 @@ impl Reporter {
     pub fn begin(&mut self, source: &Source, bar: &ProgressBar) {
         self.source = source.clone();
         self.bar = bar.clone();
-        self.found.clear();
+        self.said = 0;
         self.unsaid = 0;
     }
 
     pub fn say(&mut self, finding: &Finding) -> Result<()> {
-        let found = self.found.entry(finding.matter).or_default();
-        *found += 1;
-        if *found > self.most() {
+        if self.said == self.limits.max {
             self.unsaid += 1;
             return Ok(());
         }
+        self.said += 1;
         if self.limits.quiet {
             return Ok(());
         }
@@ -87,12 +82,6 @@ impl Reporter {
             Format::Json => self.say_row(finding)?,
         }
         self.spill_if_full()
-    }
-
-    /// How many lines are said for each reason.
-    fn most(&self) -> u64 {
-        let usual = if self.format == Format::Text { MOST } else { u64::MAX };
-        self.limits.max.unwrap_or(usual)
     }
 
     /// A line of words.
@@ -105,27 +94,28 @@ impl Reporter {
     }
 
     /// The counts of what has this name.
-    pub fn say_counts(&mut self, name: impl Display, counts: &Counts) -> Result<()> {
-        self.say_unsaid()?;
-        self.say_line(&format!("{name}: {}", self.look.bold().apply_to(counts.sentence())))?;
-        counts.reasons().try_for_each(|reason| self.say_line(&reason))
-    }
-
-    /// How many lines were found and not said, and how they are to be had.
-    pub fn say_unsaid(&mut self) -> Result<()> {
-        match mem::take(&mut self.unsaid) {
-            0 => Ok(()),
-            unsaid => self.say_line(&format!(
-                "{} and not said; --max all says them",
-                counted(unsaid, "more is counted", "more are counted")
-            )),
+    pub fn say_counts(&mut self, name: &[u8], counts: &Counts) -> Result<()> {
+        if self.limits.quiet {
+            return Ok(());
         }
+        match mem::take(&mut self.unsaid) {
+            0 => {}
+            unsaid => self.say_line(&counted(
+                unsaid,
+                "more is counted and not said",
+                "more are counted and not said",
+            ))?,
+        }
+        self.out.pending.extend_from_slice(name);
+        self.say_line(&format!(": {}", self.look.bold().apply_to(counts.sentence())))?;
+        counts.reasons().try_for_each(|reason| self.say_line(&reason))
     }
 
     /// A JSON object on a line of its own.
     pub fn say_json(&mut self, object: &impl Serialize) -> Result<()> {
         if !self.limits.quiet {
-            write_json(object, &mut self.out.pending)?;
+            serde_json::to_writer(&mut self.out.pending, object)?;
+            self.out.pending.push(b'\n');
         }
         self.spill_if_full()
     }
@@ -152,24 +142,22 @@ impl Reporter {
 
     fn say_text(&mut self, finding: &Finding) {
         let is_refused = matches!(finding.matter, Matter::Refused(_));
-        let style = match finding.matter.kind() {
-            "warning" => self.look.yellow(),
-            _ => self.look.red(),
+        let style = if is_refused {
+            self.look.red()
+        } else {
+            self.look.yellow()
         };
         let column = finding
             .column
             .map(|column| format!("column {} ({column}): ", u8::from(column)));
-        let number = match finding.number {
-            0 => String::new(),
-            number => format!(":{number}"),
-        };
         let words = format!(
-            "{}{number}: {}: {}{}\n",
-            self.source,
+            ":{}: {}: {}{}\n",
+            finding.number,
             style.apply_to(finding.matter.title()),
             column.unwrap_or_default(),
             finding.reason()
         );
+        self.out.pending.extend(self.source.shown_name());
         self.out.pending.extend_from_slice(words.as_bytes());
         if is_refused && !finding.line.is_empty() {
             let text = cut_line(finding.line, finding.place(), self.look.narrower(MARGIN.len()));
@@ -189,7 +177,7 @@ impl Reporter {
             finding.reason().as_bytes(),
             finding.line,
         ]
-        .map(|field| escaped(field, self.look));
+        .map(escaped);
         self.out.pending.extend_from_slice(&fields.join(&b'\t'));
         self.out.pending.push(b'\n');
     }
@@ -207,25 +195,8 @@ impl Reporter {
     }
 }
 
-/// A JSON object and a line feed. Of control characters JSON leaves those behind the first 32 as they are; a terminal would obey them.
-pub fn write_json(object: &impl Serialize, out: &mut Vec<u8>) -> Result<()> {
-    let text = serde_json::to_string(object)?;
-    let mut rest = text.as_str();
-    while let Some(at) = rest.find(|char| matches!(char, '\x7f'..='\u{9f}')) {
-        let (before, behind) = rest.split_at(at);
-        let mut behind = behind.chars();
-        let control = behind.next().map_or(0, u32::from);
-        out.extend_from_slice(format!("{before}\\u{control:04x}").as_bytes());
-        rest = behind.as_str();
-    }
-    out.extend_from_slice(rest.as_bytes());
-    out.push(b'\n');
-    Ok(())
-}
-
-/// A text in a column of its own: what would end it is written with a backslash, and so is a backslash. On a terminal all of it is for the
-/// eyes of a person, too.
-pub fn escaped(text: &[u8], look: Look) -> Vec<u8> {
+/// A text in a column of its own: what would end it is written with a backslash, and so is a backslash.
+pub fn escaped(text: &[u8]) -> Vec<u8> {
     let mut out = Vec::with_capacity(text.len());
     for &byte in text {
         match byte {
@@ -236,8 +207,5 @@ pub fn escaped(text: &[u8], look: Look) -> Vec<u8> {
             _ => out.push(byte),
         }
     }
-    match look.is_terminal {
-        true => shown(&out).into_bytes(),
-        false => out,
-    }
+    out
 }

@@ -4,12 +4,11 @@ use std::{borrow::Cow, ops::Range, str};
 
 use console::Style;
 
-/// How much room there is, whether there are colours, and whether a terminal shows it.
+/// How much room there is, and whether there are colours.
 #[derive(Clone, Copy)]
 pub struct Look {
     pub width: usize,
     pub colors: bool,
-    pub is_terminal: bool,
 }
 
 impl Look {

@@ -2,28 +2,13 @@
 
 use std::{
     fmt,
-    fs::{File, Metadata},
+    fs::File,
     io,
     os::unix::{ffi::OsStrExt, io::AsFd},
     path::{Path, PathBuf},
 };
 
-use anyhow::{Result, bail};
-
 use crate::{shown::shown, streams};
-
-/// A source that is open.
-pub struct Opened {
-    pub file: File,
-    pub metadata: Metadata,
-}
-
-impl Opened {
-    /// How many bytes there are, where that is known.
-    pub fn length(&self) -> Option<u64> {
-        self.metadata.is_file().then(|| self.metadata.len())
-    }
-}
 
 #[derive(Clone, PartialEq, Eq)]
 pub enum Source {
@@ -60,17 +45,21 @@ impl Source {
         String::from_utf8_lossy(self.name()).into_owned()
     }
 
-    pub fn open(&self) -> Result<Opened> {
-        let file = match self {
-            Source::Standard if streams::is_input_closed() => bail!("is closed"),
-            Source::Standard => File::from(io::stdin().as_fd().try_clone_to_owned()?),
-            Source::File(path) => File::open(path)?,
-        };
-        let metadata = file.metadata()?;
-        if metadata.is_dir() {
-            bail!("is a folder");
+    /// The name for the eyes of a person: as it is, but for what a terminal would obey.
+    pub fn shown_name(&self) -> Vec<u8> {
+        let is_plain = |byte: &u8| !byte.is_ascii_control();
+        match self.name().iter().all(is_plain) {
+            true => self.name().to_owned(),
+            false => shown(self.name()).into_bytes(),
         }
-        Ok(Opened { file, metadata })
+    }
+
+    pub fn open(&self) -> io::Result<File> {
+        match self {
+            Source::Standard if streams::is_input_closed() => Err(io::Error::new(io::ErrorKind::NotFound, "is closed")),
+            Source::Standard => Ok(File::from(io::stdin().as_fd().try_clone_to_owned()?)),
+            Source::File(path) => File::open(path),
+        }
     }
 
     /// Whether it is a person who is to type.
@@ -79,9 +68,8 @@ impl Source {
     }
 }
 
-/// The name for the eyes of a person.
 impl fmt::Display for Source {
     fn fmt(&self, f: &mut fmt::Formatter<'_>) -> fmt::Result {
-        shown(self.name()).fmt(f)
+        String::from_utf8_lossy(&self.shown_name()).fmt(f)
     }
 }

@@ -1,20 +1,28 @@
-//! Where a rewritten text goes: to standard output, or to a file that has no name before it is whole.
+//! Where a rewritten text goes: to standard output, or beside a file's place and then there.
 
 use std::{
     fs::{self, File, Metadata, OpenOptions, Permissions},
     io,
     os::unix::{
-        ffi::OsStrExt,
         fs::{MetadataExt, PermissionsExt},
         io::AsRawFd,
     },
     path::{Path, PathBuf},
+    process,
+    sync::{Arc, Mutex},
+    thread,
 };
 
 use anyhow::{Context, Result, bail};
 use nix::unistd::{Gid, Uid, fchown};
+use signal_hook::{
+    consts::{SIGHUP, SIGINT, SIGTERM},
+    iterator::Signals,
+    low_level::emulate_default_handler,
+};
+use tempfile::{Builder, TempPath};
 
-use crate::{output::Output, part::Part, process::umask, shown::shown};
+use crate::output::Output;
 
 pub enum Target {
     Standard(Output),
@@ -22,7 +30,7 @@ pub enum Target {
     Direct(Output),
     Beside {
         output: Output,
-        part: Part,
+        part: TempPath,
         path: PathBuf,
     },
 }
@@ -31,15 +39,12 @@ impl Target {
     /// Standard output for none and `-`; else a file.
     pub fn open(path: Option<&Path>) -> Result<Self> {
         match path {
-            Some(path) if path != Path::new("-") => {
-                let name = shown(path.as_os_str().as_bytes());
-                Target::of_file(path, &name).context(name)
-            }
+            Some(path) if path != Path::new("-") => Target::of_file(path).with_context(|| path.display().to_string()),
             _ => Output::standard().map(Target::Standard),
         }
     }
 
-    fn of_file(path: &Path, name: &str) -> Result<Self> {
+    fn of_file(path: &Path) -> Result<Self> {
         let ending = path.extension().unwrap_or_default();
         if ending == "gz" || ending == "bgz" {
             bail!("what is written is plain text: leave -o out, and pipe it through gzip or bgzip");
@@ -48,19 +53,24 @@ impl Target {
             Ok(old) if old.is_dir() => bail!("is a folder"),
             Ok(old) if !old.is_file() => {
                 let file = OpenOptions::new().write(true).open(path)?;
-                Ok(Target::Direct(Output::new(name, file)))
+                Ok(Target::Direct(Output::new(path.display().to_string(), file)))
             }
-            Ok(old) => Target::beside(path, name, Some(&old)),
-            Err(error) if error.kind() == io::ErrorKind::NotFound => Target::beside(path, name, None),
+            Ok(old) => Target::beside(path, Some(&old)),
+            Err(error) if error.kind() == io::ErrorKind::NotFound => Target::beside(path, None),
             Err(error) => Err(error.into()),
         }
     }
 
     /// A new file in the folder of the one that it will replace, which nobody else may read before it has its permissions. A link stays,
     /// and what it leads to is replaced.
-    fn beside(path: &Path, name: &str, old: Option<&Metadata>) -> Result<Self> {
+    fn beside(path: &Path, old: Option<&Metadata>) -> Result<Self> {
+        let name = path.display().to_string();
         let path = behind_links(path)?;
-        let (file, part) = Part::made_in(folder_of(&path))?;
+        let folder = match path.parent() {
+            Some(folder) if folder != Path::new("") => folder,
+            _ => Path::new("."),
+        };
+        let (file, part) = made_in(folder)?;
         match old {
             Some(old) => take_after(&file, old)?,
             None => file.set_permissions(Permissions::from_mode(0o666 & !umask()))?,
@@ -79,9 +89,9 @@ impl Target {
         }
     }
 
-    /// Whether it is a file that is there as a whole or not at all.
-    pub fn is_file(&self) -> bool {
-        matches!(self, Target::Beside { .. })
+    /// Whether the text goes where a progress bar would stand.
+    pub fn is_terminal(&self) -> bool {
+        matches!(self, Target::Standard(_)) && console::user_attended()
     }
 
     pub fn output(&mut self) -> &mut Output {
@@ -90,25 +100,16 @@ impl Target {
         }
     }
 
-    /// Writes what waits, and gives a file its place. Without this call nothing is left of the file.
+    /// Writes what waits, and moves the file to its place. Without this call it is removed.
     pub fn finish(mut self) -> Result<()> {
         self.output().spill()?;
         match self {
             Target::Beside { output, part, path } => {
                 output.sync()?;
-                let placed = part.place(output.file(), folder_of(&path), &path);
-                placed.map_err(|error| output.unwritten(error))
+                part.persist(path).map_err(|error| output.unwritten(error.error))
             }
             _ => Ok(()),
         }
-    }
-}
-
-/// The folder of a file.
-fn folder_of(path: &Path) -> &Path {
-    match path.parent() {
-        Some(folder) if folder != Path::new("") => folder,
-        _ => Path::new("."),
     }
 }
 
@@ -141,4 +142,51 @@ fn take_after(file: &File, old: &Metadata) -> Result<()> {
     };
     file.set_permissions(Permissions::from_mode(mode))?;
     Ok(())
+}
+
+/// A new file in a folder. From now on a signal that ends the command removes it first, or waits until it is there to be removed.
+fn made_in(folder: &Path) -> Result<(File, TempPath)> {
+    let removed_first = Arc::new(Mutex::new(None));
+    remove_on_signal(Arc::clone(&removed_first))?;
+    let mut path = removed_first.lock().expect("no thread panics with it");
+    let part = Builder::new().prefix(".gff3.").suffix(".part").tempfile_in(folder)?;
+    *path = Some(part.path().to_owned());
+    Ok(part.into_parts())
+}
+
+/// A signal that is ignored, as under nohup, stays so.
+fn remove_on_signal(part: Arc<Mutex<Option<PathBuf>>>) -> Result<()> {
+    let ignored = own_status("SigIgn:", 16).unwrap_or(0);
+    let ending = [SIGHUP, SIGINT, SIGTERM].into_iter();
+    let mut signals = Signals::new(ending.filter(|signal| ignored >> (signal - 1) & 1 == 0))?;
+    thread::Builder::new().spawn(move || {
+        for signal in signals.forever() {
+            if let Ok(Some(part)) = part.lock().map(|mut part| part.take()) {
+                // It may be moved to its place already.
+                let _ = fs::remove_file(part);
+            }
+            end_by(signal);
+        }
+    })?;
+    Ok(())
+}
+
+/// Ends the command by a signal. The first process of a container is ended by none that it does not handle.
+fn end_by(signal: i32) {
+    if process::id() == 1 {
+        process::exit(128 + signal);
+    }
+    let _ = emulate_default_handler(signal);
+}
+
+/// What a new file is kept from.
+fn umask() -> u32 {
+    own_status("Umask:", 8).map_or(0o022, |mask| mask as u32)
+}
+
+/// A number that Linux says of this process.
+fn own_status(name: &str, radix: u32) -> Option<u64> {
+    let status = fs::read_to_string("/proc/self/status").ok()?;
+    let number = status.lines().find_map(|line| line.strip_prefix(name))?;
+    u64::from_str_radix(number.trim(), radix).ok()
 }

@@ -59,9 +59,6 @@ pub struct Report {
     pub refused_phase: u64,
     /// Lines refused by [`Refusal::Attribute`].
     pub refused_attribute: u64,
-    /// Lines of sequence, for one who counts a file with sequence in it and does not hand these lines in; [`report`] answers 0 here, and
-    /// refuses such a line by [`Refusal::Columns`].
-    pub sequence: u64,
     /// Lines refused by [`Refusal::LineTooLong`], for one who counts a text that comes in parts; [`report`] answers 0 here.
     pub refused_line_too_long: u64,
     /// How many lengths lie in each power of two: `lengths[i]` counts those of at least 2^i and below 2^(i + 1).
@@ -96,7 +93,6 @@ pub fn report(text: &[u8]) -> Result<Report, Refusal> {
         refused_strand: morning.refused_strand,
         refused_phase: morning.refused_phase,
         refused_attribute: morning.refused_attribute,
-        sequence: 0,
         refused_line_too_long: 0,
         lengths: morning.lengths,
     })
@@ -110,7 +106,7 @@ impl Report {
     /// # Ok::<(), gff3_lines::Refusal>(())
     /// ```
     pub fn lines(&self) -> u64 {
-        self.records + self.directives + self.comments + self.sequence + self.refused_lines()
+        self.records + self.directives + self.comments + self.refused_lines()
     }
 
     /// The lines that were refused, whatever the number.
@@ -165,7 +161,6 @@ impl Report {
         self.records += other.records;
         self.directives += other.directives;
         self.comments += other.comments;
-        self.sequence += other.sequence;
         self.reversed += other.reversed;
         self.refused_too_long += other.refused_too_long;
         self.refused_columns += other.refused_columns;
@@ -203,11 +198,8 @@ impl Report {
             row("  reversed", self.reversed),
             row("directives", self.directives),
             row("comments", self.comments),
+            row("refused", self.refused_lines()),
         ];
-        if self.sequence > 0 {
-            rows.push(row("sequence", self.sequence));
-        }
-        rows.push(row("refused", self.refused_lines()));
         rows.extend(refused.map(|(refusal, count)| {
             let label = format!("  by {}", refusal.number());
             (label, count, refusal.reason().to_owned())

@@ -4,6 +4,8 @@
 // A writer finds the first reason to refuse, makes sure that its text fits, by its length or by a bound on it, and only then lays it: a
 // refused call changes no byte. Laying takes any place: what would stand past the buffer's end is left out, so no caller has to show that
 // there is room. Proved: the contents of the whole buffer, also behind the text. Assumes nothing.
+#![tactic(auto)]
+
 ghost use Rattle.std.specs.Prelude.{[], ◌∷◌};
 ghost use Rattle.base_buffer.specs.Laid.{Lays};
 
@@ -14,7 +16,7 @@ pub const MOST_TEXT: usize = 1048576;
 pub const MOST_LINE: usize = 4194304;
 
 // What a writer answers.
-#[derive(Drop)]
+#[derive(Clone, Copy)]
 pub enum Written {
     // The text stands at the buffer's start, and has so many bytes.
     Done(usize),

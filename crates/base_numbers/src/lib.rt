@@ -1,6 +1,8 @@
 // Gives the smaller of two numbers, and one of two numbers by a test.
 //
 // Proved: each answer, for all numbers. Assumes nothing.
+#![tactic(auto)]
+
 ghost use Rattle.std.specs.Prelude.{◌≡◌, min, cond};
 
 // The smaller of two.

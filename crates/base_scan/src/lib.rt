@@ -5,6 +5,8 @@
 // function takes any numbers: a cursor beyond the text counts as at its end.
 //
 // Proved: each answer equals the plain definition of specs/, byte by byte. Assumes nothing.
+#![tactic(auto)]
+
 mod mask;
 mod place;
 
@@ -15,7 +17,7 @@ pub use mask::marks;
 pub use place::{Place, part, text};
 
 // Two places, one behind the other.
-#[derive(Drop)]
+#[derive(Clone, Copy)]
 pub struct Two {
     pub first: usize,
     pub second: usize,

@@ -4,6 +4,8 @@
 // Every function takes any bytes and numbers: a cursor beyond the text counts as at its end.
 //
 // Proved: each answer equals the plain definition of specs/. Assumes nothing.
+#![tactic(auto)]
+
 mod same;
 mod word;
 

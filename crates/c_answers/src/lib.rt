@@ -3,6 +3,8 @@
 // These are turned into the library's own, or out of them.
 //
 // Proved: each answer is that of one definition for each type, which gives each case its number and value (RULES 10). Assumes nothing.
+#![tactic(auto)]
+
 ghost use Rattle.std.specs.Prelude.{◌≡◌};
 ghost use Rattle.c_answers.specs.Answers.{bounds_of_c, c_bounds, no_bounds, c_position, c_written};
 
@@ -11,7 +13,7 @@ use read_columns::Bounds;
 use read_tokens::PositionRead;
 
 #[repr(C)]
-#[derive(Drop)]
+#[derive(Clone, Copy)]
 pub struct Gff3Bounds {
     pub reference_sequence_name_end: usize,
     pub source_end: usize,
@@ -24,14 +26,14 @@ pub struct Gff3Bounds {
 }
 
 #[repr(C)]
-#[derive(Drop)]
+#[derive(Clone, Copy)]
 pub struct Gff3Number {
     pub refused: u64,
     pub value: u64,
 }
 
 #[repr(C)]
-#[derive(Drop)]
+#[derive(Clone, Copy)]
 pub struct Gff3Written {
     pub refused: u64,
     pub length: usize,

@@ -3,6 +3,8 @@
 // Proved: each struct is the library's definition of the answer, by one definition for each enum, which gives each case its numbers and
 // places (RULES 10, 16); a cursor handed out is never beyond the text, and where a walk is done or refused another call with it answers
 // the same (proofs/CursorLaws.antt). Every function takes any bytes and numbers. Assumes nothing.
+#![tactic(auto)]
+
 ghost use Rattle.std.specs.Prelude.{◌≡◌};
 ghost use Rattle.base_lists.specs.Bit.{bit};
 ghost use Rattle.read_attributes.specs.Attributes.{is_empty};
@@ -12,7 +14,7 @@ use read_attributes::Step;
 use read_values::{NextValue, ValueCursor};
 
 #[repr(C)]
-#[derive(Drop)]
+#[derive(Clone, Copy)]
 pub struct Gff3Field {
     pub refused: u64,
     pub done: u64,
@@ -24,7 +26,7 @@ pub struct Gff3Field {
 }
 
 #[repr(C)]
-#[derive(Drop)]
+#[derive(Clone, Copy)]
 pub struct Gff3Value {
     pub done: u64,
     pub start: usize,

@@ -2,6 +2,8 @@
 //
 // Proved: each struct is the library's definition of the answer, by one definition for each enum, which gives each case its numbers and
 // places (RULES 10, 16). Every function takes any bytes and numbers. Assumes nothing.
+#![tactic(auto)]
+
 ghost use Rattle.std.specs.Prelude.{◌≡◌, []};
 ghost use Rattle.percent_coding.specs.Percent.{decoded, encoded};
 ghost use Rattle.percent_sets.specs.Sets.{escapes};

@@ -2,6 +2,8 @@
 //
 // Proved: each struct is the library's definition of the answer, by one definition for each enum, which gives each case its numbers and
 // places (RULES 10, 16). Every function takes any bytes and numbers. Assumes nothing.
+#![tactic(auto)]
+
 ghost use Rattle.std.specs.Prelude.{◌≡◌};
 ghost use Rattle.c_answers.specs.Answers.{bounds_of_c};
 ghost use Rattle.c_columns.specs.Columns.{column_of_c, c_column_at, c_place};
@@ -10,7 +12,7 @@ use c_answers::Gff3Bounds;
 use read_columns::{Bounds, Column, ColumnRead};
 
 #[repr(C)]
-#[derive(Drop)]
+#[derive(Clone, Copy)]
 pub struct Gff3Place {
     pub refused: u64,
     pub start: usize,
@@ -18,7 +20,7 @@ pub struct Gff3Place {
 }
 
 // The column that C asks for by a number.
-#[derive(Drop)]
+#[derive(Clone, Copy)]
 enum ColumnOf {
     Is(Column),
     NotOne,

@@ -2,6 +2,8 @@
 //
 // Proved: each struct is the library's definition of the answer, by one definition for each enum, which gives each case its numbers and
 // places (RULES 10, 16). Every function takes any bytes and numbers. Assumes nothing.
+#![tactic(auto)]
+
 ghost use Rattle.std.specs.Prelude.{◌≡◌};
 ghost use Rattle.read_directives.specs.GenomeBuild as build;
 ghost use Rattle.read_version.specs.GffVersion as version;
@@ -12,7 +14,7 @@ use read_directives::{BuildRead, RegionRead};
 use read_version::{Part, VersionRead};
 
 #[repr(C)]
-#[derive(Drop)]
+#[derive(Clone, Copy)]
 pub struct Gff3VersionValue {
     pub refused: u64,
     pub parts: u64,
@@ -22,7 +24,7 @@ pub struct Gff3VersionValue {
 }
 
 #[repr(C)]
-#[derive(Drop)]
+#[derive(Clone, Copy)]
 pub struct Gff3RegionValue {
     pub refused: u64,
     pub name_start: usize,
@@ -32,7 +34,7 @@ pub struct Gff3RegionValue {
 }
 
 #[repr(C)]
-#[derive(Drop)]
+#[derive(Clone, Copy)]
 pub struct Gff3BuildValue {
     pub refused: u64,
     pub source_start: usize,

@@ -4,6 +4,8 @@
 //
 // Proved: the struct is the library's definition of the answer, by one definition that gives each case its number and places (RULES 10,
 // 16). The function takes any bytes. Assumes nothing.
+#![tactic(auto)]
+
 ghost use Rattle.std.specs.Prelude.{◌≡◌};
 ghost use Rattle.read_columns.specs.Columns.{indexed};
 ghost use Rattle.c_index.specs.Index.{c_indexed};
@@ -12,7 +14,7 @@ use c_answers::Gff3Bounds;
 use read_columns::Indexed;
 
 #[repr(C)]
-#[derive(Drop)]
+#[derive(Clone, Copy)]
 pub struct Gff3Indexed {
     pub refused: u64,
     pub bounds: Gff3Bounds,

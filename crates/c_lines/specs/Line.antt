@@ -8,7 +8,6 @@ use Rattle.read_kind.specs.declared.comment.CommentText.{CommentText}
 use Rattle.read_kind.specs.declared.comment.CommentText.TheVariants as comment
 use Rattle.read_kind.specs.declared.directive.DirectiveText.{DirectiveText}
 use Rattle.read_kind.specs.declared.directive.DirectiveText.TheVariants as directive
-use Rattle.read_kind.specs.declared.directive.ValueText.{ValueText}
 use Rattle.read_kind.specs.declared.directive.ValueText.TheVariants as value
 use Rattle.c_lines.specs.declared.Gff3Line.{Gff3Line}
 use Rattle.c_lines.specs.declared.Gff3CommentText.{Gff3CommentText}

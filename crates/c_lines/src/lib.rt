@@ -6,6 +6,8 @@
 // Proved: each struct is the library's definition of the answer, by one definition for each enum, which gives each case its numbers and
 // places (RULES 10, 16); a cursor handed out is never beyond the text, and where a walk is done another call with it answers the same
 // (proofs/CursorLaws.antt). Every function takes any bytes and numbers. Assumes nothing.
+#![tactic(auto)]
+
 ghost use Rattle.std.specs.Prelude.{◌≡◌};
 ghost use Rattle.read_kind.specs.Kind.{kind, kind_number, comment_of, directive_of};
 ghost use Rattle.c_lines.specs.Line.{c_next_line, c_comment, c_directive};
@@ -14,7 +16,7 @@ use read_kind::{CommentText, DirectiveText, Kind, ValueText};
 use read_lines::{Cursor, Next};
 
 #[repr(C)]
-#[derive(Drop)]
+#[derive(Clone, Copy)]
 pub struct Gff3Line {
     pub done: u64,
     pub start: usize,
@@ -23,7 +25,7 @@ pub struct Gff3Line {
 }
 
 #[repr(C)]
-#[derive(Drop)]
+#[derive(Clone, Copy)]
 pub struct Gff3CommentText {
     pub is: u64,
     pub start: usize,
@@ -31,7 +33,7 @@ pub struct Gff3CommentText {
 }
 
 #[repr(C)]
-#[derive(Drop)]
+#[derive(Clone, Copy)]
 pub struct Gff3DirectiveText {
     pub is: u64,
     pub key_start: usize,

@@ -4,6 +4,8 @@
 //
 // Proved: the struct is the library's definition of the answer, by one definition that gives each case its number and place (RULES 10,
 // 16). The function takes any bytes. Assumes nothing.
+#![tactic(auto)]
+
 ghost use Rattle.std.specs.Prelude.{◌≡◌};
 ghost use Rattle.read_lookup.specs.Lookup.{find_tag};
 ghost use Rattle.c_lookup.specs.Lookup.{c_found};
@@ -11,7 +13,7 @@ ghost use Rattle.c_lookup.specs.Lookup.{c_found};
 use read_lookup::Found;
 
 #[repr(C)]
-#[derive(Drop)]
+#[derive(Clone, Copy)]
 pub struct Gff3Found {
     pub refused: u64,
     pub found: u64,

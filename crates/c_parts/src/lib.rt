@@ -2,20 +2,22 @@
 //
 // Proved: each struct is the library's definition of the answer, by one definition for the enum, which gives each case its numbers
 // (RULES 10, 16), and the hold is as the library leaves it. Every function takes any bytes and numbers. Assumes nothing.
+#![tactic(auto)]
+
 ghost use Rattle.std.specs.Prelude.{◌≡◌};
 ghost use Rattle.c_parts.specs.Part.{tail_of_c, state_of_c, c_tail, c_state, c_part, CTakesPart, CEndsParts};
 
 use read_parts::{Part, State, Tail};
 
 #[repr(C)]
-#[derive(Drop)]
+#[derive(Clone, Copy)]
 pub struct Gff3State {
     pub held: usize,
     pub tail: u64,
 }
 
 #[repr(C)]
-#[derive(Drop)]
+#[derive(Clone, Copy)]
 pub struct Gff3Part {
     pub refused: u64,
     pub has_line: u64,

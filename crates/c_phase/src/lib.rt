@@ -4,6 +4,8 @@
 //
 // Proved: the struct is the library's definition of the answer, by one definition that gives each case its number and value (RULES 10,
 // 16). The function takes any bytes and numbers. Assumes nothing.
+#![tactic(auto)]
+
 ghost use Rattle.std.specs.Prelude.{◌≡◌};
 ghost use Rattle.read_fields.specs.Fields.{phase_at};
 ghost use Rattle.c_answers.specs.Answers.{bounds_of_c};

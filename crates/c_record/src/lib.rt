@@ -4,6 +4,8 @@
 //
 // Proved: the struct is the library's definition of the answer, by one definition that gives each case its numbers and places (RULES 10,
 // 16). The function takes any bytes. Assumes nothing.
+#![tactic(auto)]
+
 ghost use Rattle.std.specs.Prelude.{◌≡◌};
 ghost use Rattle.read_fields.specs.declared.record.RecordRead.TheVariants.{Is, Refused};
 ghost use Rattle.read_fields.specs.Fields.{record_of};
@@ -13,7 +15,7 @@ use c_answers::Gff3Bounds;
 use read_fields::{Record, RecordRead, Score};
 
 #[repr(C)]
-#[derive(Drop)]
+#[derive(Clone, Copy)]
 pub struct Gff3RecordFields {
     pub refused: u64,
     pub bounds: Gff3Bounds,
@@ -27,7 +29,7 @@ pub struct Gff3RecordFields {
 }
 
 // A score as C has it.
-#[derive(Drop)]
+#[derive(Clone, Copy)]
 struct ScorePlace {
     missing: u64,
     start: usize,

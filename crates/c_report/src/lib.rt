@@ -2,6 +2,8 @@
 //
 // Proved: the struct is the library's report, field by field, with the number of the refusal beside it (RULES 16, 17). The function takes
 // any bytes. Assumes nothing.
+#![tactic(auto)]
+
 ghost use Rattle.std.specs.Prelude.{◌≡◌};
 ghost use Rattle.read_report.specs.Report.{morning};
 ghost use Rattle.c_report.specs.Report.{c_morning};
@@ -9,7 +11,7 @@ ghost use Rattle.c_report.specs.Report.{c_morning};
 use read_report::Morning;
 
 #[repr(C)]
-#[derive(Drop)]
+#[derive(Clone, Copy)]
 pub struct Gff3Morning {
     pub refused: u64,
     pub records: u64,

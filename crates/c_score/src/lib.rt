@@ -4,6 +4,8 @@
 //
 // Proved: the struct is the library's definition of the answer, by one definition that gives each case its number and place (RULES 10,
 // 16). The function takes any bytes and numbers. Assumes nothing.
+#![tactic(auto)]
+
 ghost use Rattle.std.specs.Prelude.{◌≡◌};
 ghost use Rattle.read_fields.specs.Fields.{score_at};
 ghost use Rattle.c_answers.specs.Answers.{bounds_of_c};
@@ -13,7 +15,7 @@ use c_answers::Gff3Bounds;
 use read_fields::ScoreRead;
 
 #[repr(C)]
-#[derive(Drop)]
+#[derive(Clone, Copy)]
 pub struct Gff3ScoreText {
     pub refused: u64,
     pub missing: u64,

@@ -4,6 +4,8 @@
 //
 // Proved: the struct, and the whole buffer, are the library's definitions of them, by one definition that gives each case its number
 // (RULES 10, 16). The function takes any bytes and numbers. Assumes nothing.
+#![tactic(auto)]
+
 ghost use Rattle.base_buffer.specs.Answer.{Wrote};
 ghost use Rattle.c_answers.specs.Answers.{bounds_of_c, CWrote};
 ghost use Rattle.c_text.specs.Text.{text_column_of_c, c_text_reasons, c_text};

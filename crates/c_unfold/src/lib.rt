@@ -2,6 +2,8 @@
 //
 // Proved: each struct, and the whole buffer, are the library's definitions of them, by one definition for each enum, which gives each
 // case its numbers (RULES 10, 16). Every function takes any bytes. Assumes nothing.
+#![tactic(auto)]
+
 ghost use Rattle.std.specs.Prelude.{◌≡◌};
 ghost use Rattle.read_judge.specs.Judge.{judged};
 ghost use Rattle.c_unfold.specs.Sheet.{c_refused, c_numbers, c_judged, c_unfolded, CUnfolds};
@@ -11,7 +13,7 @@ use read_judge::{Judged, Numbers};
 use read_record::Unfolded;
 
 #[repr(C)]
-#[derive(Drop)]
+#[derive(Clone, Copy)]
 pub struct Gff3Unfolded {
     pub refused: u64,
     pub length: usize,

@@ -2,6 +2,8 @@
 //
 // Proved: each answer, and the whole buffer, are the library's definitions of them. Every function takes any bytes and numbers. Assumes
 // nothing.
+#![tactic(auto)]
+
 ghost use Rattle.std.specs.Prelude.{◌≡◌};
 ghost use Rattle.write_measure.specs.Record.{record_reasons, record_line};
 ghost use Rattle.write_comment.specs.Comment.{comment_reasons, comment_line};
@@ -16,7 +18,7 @@ use write_directive::Value;
 // The value of a directive. `kind` is 1 for a text, 2 for a version, 3 for a region, 4 for a build; any other number says that there is
 // none. A version has the fields from `major` to `patch`, where a part is there if its `has` is not 0, and a region has start and end.
 #[repr(C)]
-#[derive(Drop)]
+#[derive(Clone, Copy)]
 pub struct Gff3DirectiveValue {
     pub kind: u32,
     pub major: u32,

@@ -1,6 +1,6 @@
 -- Percent coding: RFC 3986, section 2.1 (`pct-encoded = "%" HEXDIG HEXDIG`), capital digits by section 6.2.2.1; GFF3, Description of
 -- the Format; RULES 6.1, 6.2. Assumes nothing: these are definitions.
-use Rattle.std.specs.Prelude.{ℕ, ◌+◌, ◌*◌, ◌-◌, ◌/◌, ◌%◌, Bool, true, false, cond, ◌&&◌, ◌||◌, List, [], ◌∷◌, ◌++◌, eqb, leb}
+use Rattle.std.specs.Prelude.{ℕ, ◌+◌, ◌*◌, ◌-◌, ◌/◌, ◌%◌, Bool, cond, ◌&&◌, ◌||◌, List, [], ◌∷◌, ◌++◌, eqb, leb}
 use Rattle.base_lists.specs.Bytes.{between, percent}
 
 -- ── hex digits ──

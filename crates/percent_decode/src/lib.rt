@@ -5,6 +5,8 @@
 // function takes any bytes and numbers.
 //
 // Proved: what is decoded is the definition of `percent_coding`, byte by byte. Assumes nothing.
+#![tactic(auto)]
+
 mod hex;
 
 ghost use Rattle.std.specs.Prelude.{◌≡◌, [], ◌≤◌, ◌<◌, length};
@@ -17,7 +19,7 @@ ghost use Rattle.percent_decode.specs.Inner.Unit.{Decodes};
 use base_buffer::Written;
 
 // A decoded byte, and where the next one begins.
-#[derive(Drop)]
+#[derive(Clone, Copy)]
 struct Unit {
     byte: u8,
     next: usize,

@@ -5,6 +5,8 @@
 //
 // Proved: what is encoded is the definition of `percent_coding` over the set, byte by byte; one proof serves the three sets. Assumes
 // nothing.
+#![tactic(auto)]
+
 mod plain;
 
 ghost use Rattle.std.specs.Prelude.{◌≡◌, ◌-◌, ◌*◌, ◌^◌, ◌<◌, ◌≤◌, min, length};

@@ -4,7 +4,7 @@ use mathlib.Core.Path.{◌≡◌, refl}
 use mathlib.Core.Bool.{Bool, true, ◌&&◌}
 use mathlib.Core.List.{List}
 use Rattle.base_lists.proofs.BoolLaws.{and_left, and_right, agree, agree_eq}
-use Rattle.base_lists.proofs.TableLaws.{below, below_holds}
+use Rattle.base_lists.proofs.TableLaws.{below_holds}
 use Rattle.percent_sets.specs.declared.Set.{Set}
 use Rattle.percent_sets.specs.declared.Set.TheVariants.{Name, Column, Attribute}
 use Rattle.percent_sets.specs.Sets.{escapes, classes, escapes_by}

@@ -6,10 +6,12 @@
 //
 // Proved: the sets are those of specs/, byte by byte; decoding what any of them encoded gives the text; no encoded text holds a control
 // character, nor a tag or a value a sign of column 9, nor a name `#` or `>`. Assumes nothing.
+#![tactic(auto)]
+
 ghost use Rattle.std.specs.Prelude.{◌≡◌};
 ghost use Rattle.percent_sets.specs.Sets.{escapes, classes, least_class, escapes_by};
 
-#[derive(Drop)]
+#[derive(Clone, Copy)]
 pub enum Set {
     // Column 1, the reference sequence name.
     Name,

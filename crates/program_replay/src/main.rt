@@ -3,6 +3,8 @@
 // `stdin` has the cases, and `stdout` what they should give, taken from outside (the Rust's answers, and the samples of RULES 14).
 // tools/make-vectors makes the list. program_replay_words says what a case is made of; program_replay_read and program_replay_write have
 // them, each above the function that answers it.
+#![tactic(auto)]
+
 ghost use Rattle.std.specs.Prelude.{◌<◌, length};
 
 use program_replay_read::{

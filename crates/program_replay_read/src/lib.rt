@@ -2,6 +2,8 @@
 //
 // Each public function makes a call of the library, or walks to an end, and shows the answers. Above it stands its case, a letter and
 // words. Proved: each is safe and ends.
+#![tactic(auto)]
+
 pub mod attributes_cases;
 pub mod columns_cases;
 pub mod directive_cases;

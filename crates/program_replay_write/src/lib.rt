@@ -2,6 +2,8 @@
 //
 // Each public function makes a call of the library, and shows the answer. Above it stands its case, a letter and words. Proved: each is
 // safe and ends.
+#![tactic(auto)]
+
 use program_replay_words::{case, show};
 use read_judge::{Judged, Numbers};
 use read_record::Unfolded;

@@ -9,7 +9,7 @@ use read_judge::Numbers;
 use read_kind::Kind;
 use read_record::Unfolded;
 
-#[derive(Drop)]
+#[derive(Clone, Copy)]
 pub(crate) enum Answer {
     // The line stays as it was read.
     AsRead,

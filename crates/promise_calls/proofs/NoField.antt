@@ -36,10 +36,11 @@ use Rattle.read_directives.specs.declared.genome_build.BuildRead.TheVariants as 
 use Rattle.read_judge.specs.declared.judging.Judged.TheVariants as judge
 use Rattle.read_record.specs.declared.lay.Unfolded.TheVariants as unfolded
 use Rattle.read_report.specs.Report.{nothing, counted, morning}
+use Rattle.c_lines.specs.Line.{c_directive}
 use Rattle.c_directives.specs.Directive.{c_parts}
 use Rattle.c_record.specs.Record.{score_missing, score_start, score_end}
 use Rattle.c_report.specs.Report.{c_morning}
-use Rattle.promise_calls.specs.NoField.{Zeros, counts, NoField}
+use Rattle.promise_calls.specs.NoField.{Zeros, Bare, counts, NoField}
 
 -- as many zeros as are asked for
 zeros : (n : ℕ) → Zeros (replicate n 0)
@@ -74,6 +75,17 @@ unfolding morning
 report_refused s =
     by_test (λ m. (c_morning m).refused ≢ 0 → Zeros (counts (c_morning m))) (ltb most64 (counted nothing (lines s)).totals.sum) (λ e h. zeros 76)
     (λ e h. absurd (h refl))
+
+-- of a directive, its value, and itself
+value_absent : Bare c_directive (λ r. r.has_value ≡ 0) (λ r. r.value_start ∷ r.value_end ∷ [])
+value_absent (directive.Is key (text.At p)) h = absurd (omega arith)
+value_absent (directive.Is key text.Absent) h = zeros 2
+value_absent directive.NotOne h = zeros 2
+
+no_directive : Bare c_directive (λ r. r.is ≡ 0) (λ r. r.key_start ∷ r.key_end ∷ r.has_value ∷ r.value_start ∷ r.value_end ∷ [])
+no_directive (directive.Is key (text.At p)) h = absurd (omega arith)
+no_directive (directive.Is key text.Absent) h = absurd (omega arith)
+no_directive directive.NotOne h = zeros 5
 
 pub no_field : NoField
 unfolding number needed
@@ -169,11 +181,7 @@ no_field =
             | version.Is v ↦ patch_absent 0 v.major v.minor v.patch
             | version.Refused n ↦ λ h. zeros 1
           ];
-      value_absent =
-          elim [
-            | directive.Is key v ↦ elim v [ text.At p ↦ λ h. absurd (omega arith) | text.Absent ↦ λ h. zeros 2 ]
-            | directive.NotOne ↦ λ h. zeros 2
-          ];
+      value_absent = value_absent;
       no_line = λ was. elim [
         | lines_part.Line n taken s ↦ λ h. absurd (omega arith)
         | lines_part.TooLong taken s ↦ λ h. zeros 1
@@ -181,9 +189,5 @@ no_field =
         | lines_part.Refused n ↦ λ h. zeros 1
       ];
       no_comment = elim [ comment.At p ↦ λ h. absurd (omega arith) | comment.NotOne ↦ λ h. zeros 2 ];
-      no_directive =
-          elim [
-            | directive.Is key v ↦ elim v [ text.At p ↦ λ h. absurd (omega arith) | text.Absent ↦ λ h. absurd (omega arith) ]
-            | directive.NotOne ↦ λ h. zeros 5
-          ];
+      no_directive = no_directive;
     }

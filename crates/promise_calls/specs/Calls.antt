@@ -32,6 +32,29 @@ use Rattle.read_report.specs.Report.{morning}
 use Rattle.write_comment.specs.Comment.{comment_reasons, comment_line}
 use Rattle.write_directive.specs.Directive.{directive_reasons, directive_line}
 use Rattle.write_measure.specs.Record.{measured, record_reasons, record_line}
+use Rattle.write_decimals.specs.contracts as write_decimals_contracts
+use Rattle.percent_decode.specs.contracts as percent_decode_contracts
+use Rattle.percent_encode.specs.contracts as percent_encode_contracts
+use Rattle.read_lines.specs.contracts as read_lines_contracts
+use Rattle.read_parts.specs.contracts as read_parts_contracts
+use Rattle.read_kind.specs.contracts as read_kind_contracts
+use Rattle.read_tokens.specs.contracts as read_tokens_contracts
+use Rattle.read_columns.specs.contracts as read_columns_contracts
+use Rattle.read_fields.specs.contracts as read_fields_contracts
+use Rattle.read_values.specs.contracts as read_values_contracts
+use Rattle.read_attributes.specs.contracts as read_attributes_contracts
+use Rattle.read_lookup.specs.contracts as read_lookup_contracts
+use Rattle.read_walker.specs.contracts as read_walker_contracts
+use Rattle.read_version.specs.contracts as read_version_contracts
+use Rattle.read_directives.specs.contracts as read_directives_contracts
+use Rattle.read_judge.specs.contracts as read_judge_contracts
+use Rattle.read_record.specs.contracts as read_record_contracts
+use Rattle.read_verdict.specs.contracts as read_verdict_contracts
+use Rattle.read_report.specs.contracts as read_report_contracts
+use Rattle.write_comment.specs.contracts as write_comment_contracts
+use Rattle.write_directive.specs.contracts as write_directive_contracts
+use Rattle.write_measure.specs.contracts as write_measure_contracts
+use Rattle.write_record.specs.contracts as write_record_contracts
 use Rattle.write_decimals.proofs as write_decimals
 use Rattle.percent_decode.proofs as percent_decode
 use Rattle.percent_encode.proofs as percent_encode
@@ -59,122 +82,138 @@ use Rattle.promise_calls.specs.Does.{Gives, Shows, Fills}
 
 pub record Calls : Type 2 where
   -- RULES 1: lines
-  pub cursor : Gives read_lines.Cursor.new.ended read_lines.Cursor.new.Symbol.routine
+  pub cursor : Gives read_lines_contracts.Cursor.new.ended read_lines.Cursor.new.Symbol.name read_lines.Cursor.new.Symbol.code
       (λ _ a. lines.fresh)
-  pub past_blank : Gives read_lines.past_blank.ended read_lines.past_blank.Symbol.routine
+  pub past_blank : Gives read_lines_contracts.past_blank.ended read_lines.past_blank.Symbol.name read_lines.past_blank.Symbol.code
       (λ _ (text, (from, _)). blank.past_blank text.now from)
-  pub next_line : Gives read_lines.next_line.ended read_lines.next_line.Symbol.routine
+  pub next_line : Gives read_lines_contracts.next_line.ended read_lines.next_line.Symbol.name read_lines.next_line.Symbol.code
       (λ _ (text, (cursor, _)). lines.next_line text.now cursor)
-  pub state : Gives read_parts.state.State.new.ended read_parts.state.State.new.Symbol.routine
+  pub state : Gives read_parts_contracts.state.State.new.ended read_parts.state.State.new.Symbol.name read_parts.state.State.new.Symbol.code
       (λ _ a. parts.fresh)
-  pub take_part : Fills read_parts.take_part.ended read_parts.take_part.Symbol.routine (λ _ (_, (hold, _)). hold.now)
+  pub take_part : Fills read_parts_contracts.take_part.ended
+      read_parts.take_part.Symbol.name read_parts.take_part.Symbol.code (λ _ (_, (hold, _)). hold.now)
       (λ _ (state, (hold, (part, _))). TakesPart state part.now hold.now)
-  pub end_parts : Fills read_parts.end_parts.ended read_parts.end_parts.Symbol.routine (λ _ (_, (hold, _)). hold.now)
+  pub end_parts : Fills read_parts_contracts.end_parts.ended
+      read_parts.end_parts.Symbol.name read_parts.end_parts.Symbol.code (λ _ (_, (hold, _)). hold.now)
       (λ _ (state, (hold, _)). EndsParts state hold.now)
   -- RULES 2: kinds
-  pub kind_of : Gives read_kind.kind_of.ended read_kind.kind_of.Symbol.routine
+  pub kind_of : Gives read_kind_contracts.kind_of.ended read_kind.kind_of.Symbol.name read_kind.kind_of.Symbol.code
       (λ _ (line, _). kind line.now)
-  pub comment_of : Gives read_kind.comment_of.ended read_kind.comment_of.Symbol.routine
+  pub comment_of : Gives read_kind_contracts.comment_of.ended read_kind.comment_of.Symbol.name read_kind.comment_of.Symbol.code
       (λ _ (line, _). comment_of line.now)
-  pub directive_of : Gives read_kind.directive_of.ended read_kind.directive_of.Symbol.routine
+  pub directive_of : Gives read_kind_contracts.directive_of.ended read_kind.directive_of.Symbol.name read_kind.directive_of.Symbol.code
       (λ _ (line, _). directive_of line.now)
   -- RULES 3: columns
-  pub index : Gives read_columns.index.ended read_columns.index.Symbol.routine
+  pub index : Gives read_columns_contracts.index.ended read_columns.index.Symbol.name read_columns.index.Symbol.code
       (λ _ (line, _). indexed line.now)
-  pub column_at : Gives read_columns.column_at.ended read_columns.column_at.Symbol.routine
+  pub column_at : Gives read_columns_contracts.column_at.ended read_columns.column_at.Symbol.name read_columns.column_at.Symbol.code
       (λ _ (line, (bounds, (column, _))). column_at column line.now bounds)
-  pub reference_sequence_name : Fills read_fields.reference_sequence_name.ended read_fields.reference_sequence_name.Symbol.routine
+  pub reference_sequence_name : Fills read_fields_contracts.reference_sequence_name.ended
+      read_fields.reference_sequence_name.Symbol.name read_fields.reference_sequence_name.Symbol.code
       (λ _ (_, (_, (out, _))). out.now)
       (λ _ (line, (bounds, (out, _))).
       Wrote (text_reasons line.now bounds) (decoded (column_text column.ReferenceSequenceName line.now)) out.now)
-  pub source : Fills read_fields.source.ended read_fields.source.Symbol.routine (λ _ (_, (_, (out, _))). out.now)
+  pub source : Fills read_fields_contracts.source.ended
+      read_fields.source.Symbol.name read_fields.source.Symbol.code (λ _ (_, (_, (out, _))). out.now)
       (λ _ (line, (bounds, (out, _))). Wrote (text_reasons line.now bounds) (decoded (column_text column.Source line.now)) out.now)
-  pub ty : Fills read_fields.ty.ended read_fields.ty.Symbol.routine (λ _ (_, (_, (out, _))). out.now)
+  pub ty : Fills read_fields_contracts.ty.ended read_fields.ty.Symbol.name read_fields.ty.Symbol.code (λ _ (_, (_, (out, _))). out.now)
       (λ _ (line, (bounds, (out, _))). Wrote (text_reasons line.now bounds) (decoded (column_text column.Ty line.now)) out.now)
   -- RULES 4: tokens
-  pub position_of : Gives read_tokens.position_of.ended read_tokens.position_of.Symbol.routine
+  pub position_of : Gives read_tokens_contracts.position_of.ended read_tokens.position_of.Symbol.name read_tokens.position_of.Symbol.code
       (λ _ (text, _). position_of text.now)
-  pub strand_of : Gives read_tokens.strand_of.ended read_tokens.strand_of.Symbol.routine
+  pub strand_of : Gives read_tokens_contracts.strand_of.ended read_tokens.strand_of.Symbol.name read_tokens.strand_of.Symbol.code
       (λ _ (text, _). strand_of text.now)
-  pub phase_of : Gives read_tokens.phase_of.ended read_tokens.phase_of.Symbol.routine
+  pub phase_of : Gives read_tokens_contracts.phase_of.ended read_tokens.phase_of.Symbol.name read_tokens.phase_of.Symbol.code
       (λ _ (text, _). phase_of text.now)
-  pub start_at : Gives read_fields.start_at.ended read_fields.start_at.Symbol.routine
+  pub start_at : Gives read_fields_contracts.start_at.ended read_fields.start_at.Symbol.name read_fields.start_at.Symbol.code
       (λ _ (line, (bounds, _)). position_at column.Start line.now bounds)
-  pub end_at : Gives read_fields.end_at.ended read_fields.end_at.Symbol.routine
+  pub end_at : Gives read_fields_contracts.end_at.ended read_fields.end_at.Symbol.name read_fields.end_at.Symbol.code
       (λ _ (line, (bounds, _)). position_at column.End line.now bounds)
-  pub score_at : Gives read_fields.score_at.ended read_fields.score_at.Symbol.routine
+  pub score_at : Gives read_fields_contracts.score_at.ended read_fields.score_at.Symbol.name read_fields.score_at.Symbol.code
       (λ _ (line, (bounds, _)). score_at line.now bounds)
-  pub strand_at : Gives read_fields.strand_at.ended read_fields.strand_at.Symbol.routine
+  pub strand_at : Gives read_fields_contracts.strand_at.ended read_fields.strand_at.Symbol.name read_fields.strand_at.Symbol.code
       (λ _ (line, (bounds, _)). strand_at line.now bounds)
-  pub phase_at : Gives read_fields.phase_at.ended read_fields.phase_at.Symbol.routine
+  pub phase_at : Gives read_fields_contracts.phase_at.ended read_fields.phase_at.Symbol.name read_fields.phase_at.Symbol.code
       (λ _ (line, (bounds, _)). phase_at line.now bounds)
-  pub record_of : Gives read_fields.record_of.ended read_fields.record_of.Symbol.routine
+  pub record_of : Gives read_fields_contracts.record_of.ended read_fields.record_of.Symbol.name read_fields.record_of.Symbol.code
       (λ _ (line, _). record_of line.now)
   -- RULES 5: column 9
-  pub is_empty : Gives read_attributes.is_empty.ended read_attributes.is_empty.Symbol.routine
+  pub is_empty : Gives read_attributes_contracts.is_empty.ended read_attributes.is_empty.Symbol.name read_attributes.is_empty.Symbol.code
       (λ _ (column, _). is_empty column.now)
-  pub next_field : Gives read_attributes.next_field.ended read_attributes.next_field.Symbol.routine
+  pub next_field : Gives read_attributes_contracts.next_field.ended
+      read_attributes.next_field.Symbol.name read_attributes.next_field.Symbol.code
       (λ _ (column, (at, _)). column9.next_field column.now at)
-  pub value_cursor : Gives read_values.ValueCursor.new.ended read_values.ValueCursor.new.Symbol.routine
+  pub value_cursor : Gives read_values_contracts.ValueCursor.new.ended
+      read_values.ValueCursor.new.Symbol.name read_values.ValueCursor.new.Symbol.code
       (λ _ a. values.fresh)
-  pub next_value : Gives read_values.next_value.ended read_values.next_value.Symbol.routine
+  pub next_value : Gives read_values_contracts.next_value.ended read_values.next_value.Symbol.name read_values.next_value.Symbol.code
       (λ _ (value, (cursor, _)). values.next_value value.now cursor)
-  pub find_tag : Gives read_lookup.find_tag.ended read_lookup.find_tag.Symbol.routine
+  pub find_tag : Gives read_lookup_contracts.find_tag.ended read_lookup.find_tag.Symbol.name read_lookup.find_tag.Symbol.code
       (λ _ (column, (tag, _)). lookup.find_tag column.now tag.now)
-  pub value_or : Shows read_lookup.value_or.ended read_lookup.value_or.Symbol.routine (λ _ r. r.now)
+  pub value_or : Shows read_lookup_contracts.value_or.ended read_lookup.value_or.Symbol.name read_lookup.value_or.Symbol.code (λ _ r. r.now)
       (λ _ (column, (tag, (fallback, _))). lookup.value_or column.now tag.now fallback.now)
-  pub walk_over : Gives read_walker.walk_over.ended read_walker.walk_over.Symbol.routine
+  pub walk_over : Gives read_walker_contracts.walk_over.ended read_walker.walk_over.Symbol.name read_walker.walk_over.Symbol.code
       (λ _ (column, _). record { column = column; at = 0 })
-  pub next : Gives read_walker.next.ended read_walker.next.Symbol.routine
+  pub next : Gives read_walker_contracts.next.ended read_walker.next.Symbol.name read_walker.next.Symbol.code
       (λ _ (walker, _). column9.next_field walker.column.now walker.at)
-  pub moved : Gives read_walker.moved.ended read_walker.moved.Symbol.routine
+  pub moved : Gives read_walker_contracts.moved.ended read_walker.moved.Symbol.name read_walker.moved.Symbol.code
       (λ _ (walker, (at, _)). record { column = walker.column; at = at })
-  pub get : Gives read_walker.get.ended read_walker.get.Symbol.routine
+  pub get : Gives read_walker_contracts.get.ended read_walker.get.Symbol.name read_walker.get.Symbol.code
       (λ _ (walker, (tag, _)). lookup.find_tag walker.column.now tag.now)
-  pub first_field : Gives read_walker.first_field.ended read_walker.first_field.Symbol.routine
+  pub first_field : Gives read_walker_contracts.first_field.ended read_walker.first_field.Symbol.name read_walker.first_field.Symbol.code
       (λ _ (column, _). column9.next_field column.now 0)
   -- RULES 6: percent coding
-  pub decode : Fills percent_decode.decode.ended percent_decode.decode.Symbol.routine (λ _ (_, (out, _)). out.now)
+  pub decode : Fills percent_decode_contracts.decode.ended
+      percent_decode.decode.Symbol.name percent_decode.decode.Symbol.code (λ _ (_, (out, _)). out.now)
       (λ _ (s, (out, _)). Wrote [] (decoded s.now) out.now)
-  pub encode : Fills percent_encode.encode.ended percent_encode.encode.Symbol.routine (λ _ (_, (_, (out, _))). out.now)
+  pub encode : Fills percent_encode_contracts.encode.ended
+      percent_encode.encode.Symbol.name percent_encode.encode.Symbol.code (λ _ (_, (_, (out, _))). out.now)
       (λ _ (set, (s, (out, _))). Wrote (encode_reasons s.now) (encoded (escapes set) s.now) out.now)
   -- RULES 7: typed directive values
-  pub parse_gff_version : Gives read_version.parse_gff_version.ended read_version.parse_gff_version.Symbol.routine
+  pub parse_gff_version : Gives read_version_contracts.parse_gff_version.ended
+      read_version.parse_gff_version.Symbol.name read_version.parse_gff_version.Symbol.code
       (λ _ (text, _). version_of text.now)
-  pub parse_sequence_region : Gives read_directives.parse_sequence_region.ended read_directives.parse_sequence_region.Symbol.routine
+  pub parse_sequence_region : Gives read_directives_contracts.parse_sequence_region.ended
+      read_directives.parse_sequence_region.Symbol.name read_directives.parse_sequence_region.Symbol.code
       (λ _ (text, _). region_of text.now)
-  pub parse_genome_build : Gives read_directives.parse_genome_build.ended read_directives.parse_genome_build.Symbol.routine
+  pub parse_genome_build : Gives read_directives_contracts.parse_genome_build.ended
+      read_directives.parse_genome_build.Symbol.name read_directives.parse_genome_build.Symbol.code
       (λ _ (text, _). build_of text.now)
   -- RULES 8: writing
-  pub write_decimal : Fills write_decimals.write_decimal.ended write_decimals.write_decimal.Symbol.routine (λ _ (_, (out, _)). out.now)
+  pub write_decimal : Fills write_decimals_contracts.write_decimal.ended
+      write_decimals.write_decimal.Symbol.name write_decimals.write_decimal.Symbol.code (λ _ (_, (out, _)). out.now)
       (λ _ (n, (out, _)). Wrote [] (decimal n) out.now)
-  pub measure : Gives write_measure.measure.ended write_measure.measure.Symbol.routine
+  pub measure : Gives write_measure_contracts.measure.ended write_measure.measure.Symbol.name write_measure.measure.Symbol.code
       (λ _ (sheet, (start, (end, (strand, (phase, _))))). measured sheet.now start end strand phase)
-  pub refusal : Gives write_measure.refusal.ended write_measure.refusal.Symbol.routine
+  pub refusal : Gives write_measure_contracts.refusal.ended write_measure.refusal.Symbol.name write_measure.refusal.Symbol.code
       (λ _ (sheet, (start, (end, (strand, (phase, _))))). refusal_of (record_reasons sheet.now start end strand phase))
-  pub write_record : Fills write_record.write_record.ended write_record.write_record.Symbol.routine
+  pub write_record : Fills write_record_contracts.write_record.ended
+      write_record.write_record.Symbol.name write_record.write_record.Symbol.code
       (λ _ (_, (_, (_, (_, (_, (out, _)))))). out.now)
       (λ _ (sheet, (start, (end, (strand, (phase, (out, _)))))). Wrote (record_reasons sheet.now start end strand phase)
       (record_line sheet.now start end strand phase) out.now)
-  pub write_directive : Fills write_directive.write_directive.ended write_directive.write_directive.Symbol.routine
+  pub write_directive : Fills write_directive_contracts.write_directive.ended
+      write_directive.write_directive.Symbol.name write_directive.write_directive.Symbol.code
       (λ _ (_, (_, (_, (_, (out, _))))). out.now)
       (λ _ (key, (value, (first, (second, (out, _))))). Wrote (directive_reasons key.now value first.now second.now)
       (directive_line key.now value first.now second.now) out.now)
-  pub write_comment : Fills write_comment.write_comment.ended write_comment.write_comment.Symbol.routine (λ _ (_, (out, _)). out.now)
+  pub write_comment : Fills write_comment_contracts.write_comment.ended
+      write_comment.write_comment.Symbol.name write_comment.write_comment.Symbol.code (λ _ (_, (out, _)). out.now)
       (λ _ (text, (out, _)). Wrote (comment_reasons text.now) (comment_line text.now) out.now)
   -- RULES 9: the field sheet
-  pub judge : Gives read_judge.judge.ended read_judge.judge.Symbol.routine
+  pub judge : Gives read_judge_contracts.judge.ended read_judge.judge.Symbol.name read_judge.judge.Symbol.code
       (λ _ (line, _). judged line.now)
-  pub judge_numbers : Gives read_judge.judge_numbers.ended read_judge.judge_numbers.Symbol.routine
+  pub judge_numbers : Gives read_judge_contracts.judge_numbers.ended
+      read_judge.judge_numbers.Symbol.name read_judge.judge_numbers.Symbol.code
       (λ _ (line, _). numbers_judged (judged line.now))
-  pub admit : Gives read_judge.admit.ended read_judge.admit.Symbol.routine
+  pub admit : Gives read_judge_contracts.admit.ended read_judge.admit.Symbol.name read_judge.admit.Symbol.code
       (λ _ (line, _). admitted line.now)
-  pub survey : Gives read_judge.survey.ended read_judge.survey.Symbol.routine
+  pub survey : Gives read_judge_contracts.survey.ended read_judge.survey.Symbol.name read_judge.survey.Symbol.code
       (λ _ (line, _). surveyed line.now)
-  pub «unfold» : Fills read_record.unfold.ended read_record.unfold.Symbol.routine (λ _ (_, (out, _)). out.now)
+  pub «unfold» : Fills read_record_contracts.unfold.ended read_record.unfold.Symbol.name read_record.unfold.Symbol.code (λ _ (_, (out, _)). out.now)
       (λ _ (line, (out, _)). Unfolds line.now out.now)
   -- RULES 17: the morning's report
-  pub verdict_of : Gives read_verdict.verdict_of.ended read_verdict.verdict_of.Symbol.routine
+  pub verdict_of : Gives read_verdict_contracts.verdict_of.ended read_verdict.verdict_of.Symbol.name read_verdict.verdict_of.Symbol.code
       (λ _ (line, _). verdict line.now)
-  pub report_of : Gives read_report.report_of.ended read_report.report_of.Symbol.routine
+  pub report_of : Gives read_report_contracts.report_of.ended read_report.report_of.Symbol.name read_report.report_of.Symbol.code
       (λ _ (text, _). morning text.now)

@@ -1,10 +1,12 @@
 -- What it is for a function's code to do something, and to do one thing only. Of a function `f` the toolchain makes `f.ended`, its
--- signature, `f.Symbol.routine`, its code, and `f.Met.met`, that the code meets the contract. Assumes nothing: these are definitions.
+-- signature, `f.Symbol.name`, the name by which it is called, `f.Symbol.code`, its code and that of all that it calls, and `f.Met.met`,
+-- that the code meets the contract. Assumes nothing: these are definitions.
 use Rattle.std.specs.Prelude.{◌≡◌, List, ℕ}
 use seplogic.Ra.Ura.{Ura}
 use base.Logic.{SProp, emp}
+use mir.Syntax.{Callee}
 use prog.Model.{Model}
-use prog.Routine.{Routine}
+use prog.Wired.{Code, Wired}
 use types.Logic.{Logic}
 use contract.Lifetimes.{Lfts}
 use contract.Monad.{fact}
@@ -34,13 +36,13 @@ module _ (T : Ended) where
   abbrev pub Promise : Type 2
   Promise = (M : Type 1) (𝓤 : Ura M) (κs : Lifetimes) → Arguments κs → Left κs → Answer κs → SProp 𝓤
 
-  module _ (code : Routine) where
-    -- The code meets a contract that asks nothing: called with any arguments it does nothing undefined and ends, and Q holds then. So in
-    -- every model of the toolchain's logic.
+  module _ (name : Callee) (code : Code) where
+    -- The code meets a contract that asks nothing: called by its name, with any arguments, in any program that has the code, it does nothing
+    -- undefined and ends, and Q holds then. So in every model of the toolchain's logic.
     abbrev pub Meeting : Promise → Type 2
     Meeting Q =
         (M : Type 1) (𝓤 : Ura M) (𝓛 : Logic 𝓤) (𝓜 : Model 𝓤 𝓛.H) (𝓡 : Running 𝓤 𝓛.H 𝓜)
-        → Meets 𝓛 T.signature (𝓡.run code)
+        → Wired 𝓡.env code → Meets 𝓛 T.signature (𝓡.run (𝓡.env name))
         (λ κs a. record {
           ghost = Unit {0};
           requires = λ g. emp 𝓤;

@@ -21,7 +21,7 @@ use Rattle.read_version.specs.GffVersion.{patch_of, minor_of, version_of}
 use Rattle.sheet_form.specs.Reader.{read_count, times, counted}
 use Rattle.sheet_form.specs.Sheet.{read_sheet, ended, count_of, section_of, counted_of, sheet_of}
 use Rattle.write_measure.specs.Record.{score_column, columns, record_reasons, record_line}
-use Rattle.promise_demands.specs.Samples.{Sample, samples}
+use Rattle.promise_demands.specs.Samples.{samples}
 
 -- a sample, and the rest of the list
 infixr 4 ◌also◌

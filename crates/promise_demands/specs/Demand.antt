@@ -71,11 +71,11 @@ use Rattle.promise_survival.specs.Survival.{Writing, Reading, Survival}
 -- where its buffer held d before and holds d' after. Whatever d is, there is an answer, and one only. Its number is that of the first
 -- reason that holds, no room for so many bytes being the last reason, and 0 where none holds. Where it is not 0, the buffer holds what it
 -- held.
-pub record Answers {A : Type 0} (number_of_lem : A → ℕ) (reasons : List Reason) (bytes : ℕ) (P : List ℕ → List ℕ → A → Type 0) : Type 0 where
+pub record Answers {A : Type 0} (number_of : A → ℕ) (reasons : List Reason) (bytes : ℕ) (P : List ℕ → List ℕ → A → Type 0) : Type 0 where
   pub some_answer : (d : List ℕ) → (d' : List ℕ) × (r : A) × P d d' r
   pub one_answer : {d d₁ d₂ : List ℕ} {r₁ r₂ : A} → P d d₁ r₁ → P d d₂ r₂ → (r₁ ≡ r₂) × (d₁ ≡ d₂)
-  pub first_reason : {d d' : List ℕ} {r : A} → P d d' r → number_of_lem r ≡ refusal_of (reasons ++ ((22 when ltb (length d) bytes) ∷ []))
-  pub unchanged : {d d' : List ℕ} {r : A} → P d d' r → number_of_lem r ≢ 0 → d' ≡ d
+  pub first_reason : {d d' : List ℕ} {r : A} → P d d' r → number_of r ≡ refusal_of (reasons ++ ((22 when ltb (length d) bytes) ∷ []))
+  pub unchanged : {d d' : List ℕ} {r : A} → P d d' r → number_of r ≢ 0 → d' ≡ d
 
 -- so of a function that writes a text
 abbrev pub Writes : List Reason → List ℕ → Type 0

@@ -19,7 +19,7 @@ use Rattle.read_attributes.specs.Attributes.{done, refused, then, walk, attribut
 use Rattle.read_version.specs.declared.Part.TheVariants.{Absent}
 use Rattle.read_version.specs.declared.VersionRead.TheVariants as version
 use Rattle.read_version.specs.GffVersion.{version_of}
-use Rattle.sheet_form.specs.Sheet.{Sheet, sheet_of}
+use Rattle.sheet_form.specs.Sheet.{sheet_of}
 use Rattle.read_judge.specs.declared.judging.Judged.TheVariants as judge
 use Rattle.read_judge.specs.Judge.{judged}
 use Rattle.write_measure.specs.Record.{record_reasons, record_line}

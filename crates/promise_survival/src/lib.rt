@@ -2,3 +2,4 @@
 //
 // There is no function here. specs/Survival.antt says it of items of any kind and any reading by lines; promise_demands says for which items
 // and which reading it is demanded. Assumes nothing.
+#![tactic(auto)]

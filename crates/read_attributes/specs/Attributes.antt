@@ -1,7 +1,7 @@
 -- Column 9 (RULES 5; GFF3, Column 9, attributes): equal to `.`, or empty, it has no attributes. Otherwise a tag runs to the next `=`, its
 -- value to the next `;` or the end; the walk is done when nothing is left. Text that is left without `=` is refused, by number 5. A value
 -- splits at each `,`, and splitting comes before decoding. Assumes nothing: these are definitions.
-use Rattle.std.specs.Prelude.{ℕ, Bool, true, false, cond, List, [], ◌∷◌, ◌++◌, map, eqb, drop}
+use Rattle.std.specs.Prelude.{ℕ, Bool, true, cond, List, [], ◌∷◌, ◌++◌, map, eqb, drop}
 use Rattle.std.proofs.Math.Option.{Option, none, some}
 use Rattle.base_lists.specs.Bytes.{comma, semicolon, equals}
 use Rattle.base_words.specs.Same.{is_dot}

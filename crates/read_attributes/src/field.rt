@@ -6,7 +6,7 @@ ghost use Rattle.read_attributes.specs.Step.{next_field};
 use base_scan::Place;
 
 // An attribute as it stands in the column, and the cursor behind it.
-#[derive(Drop)]
+#[derive(Clone, Copy)]
 pub struct Field {
     pub tag: Place,
     pub value: Place,
@@ -14,7 +14,7 @@ pub struct Field {
 }
 
 // What stands at a cursor.
-#[derive(Drop)]
+#[derive(Clone, Copy)]
 pub enum Step {
     Is(Field),
     Done,

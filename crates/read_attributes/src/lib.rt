@@ -6,6 +6,8 @@
 //
 // Proved: a step is its definition, and steps in a row meet exactly what the walk of RULES 5.2 meets; the walk over a written column
 // meets what was written. Assumes nothing.
+#![tactic(auto)]
+
 mod field;
 
 pub use field::{Field, Step, is_empty, next_field};

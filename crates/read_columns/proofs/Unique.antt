@@ -8,7 +8,7 @@ use Rattle.read_columns.proofs.bounds.own.Reads as own
 use Rattle.read_columns.proofs.column.column_at.Kinds as column_at_kinds
 use Rattle.read_columns.proofs.column.column_at.Reads as column_at
 use Rattle.read_columns.proofs.column.place_in.Kinds as place_in_kinds
-use Rattle.read_columns.proofs.column.place_in.Reads as IsPlace_in
+use Rattle.read_columns.proofs.column.place_in.Reads as place_in
 use Rattle.read_columns.proofs.column.text_in.Kinds as text_in_kinds
 use Rattle.read_columns.proofs.column.text_in.Reads as text_in
 
@@ -21,7 +21,7 @@ own_one κs a x y s t p q = p ∙ sym q
 column_at_one : OneResult 1 column_at_kinds.ps column_at_kinds.r column_at.Post
 column_at_one κs a x y s t p q = p ∙ sym q
 
-place_in_one : OneResult 0 place_in_kinds.ps place_in_kinds.r IsPlace_in.Post
+place_in_one : OneResult 0 place_in_kinds.ps place_in_kinds.r place_in.Post
 place_in_one κs a x y s t p q = p ∙ sym q
 
 text_in_one : OneShown 1 text_in_kinds.ps text_in_kinds.r text_in.Post (λ κs x. x.now)

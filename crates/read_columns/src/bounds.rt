@@ -9,7 +9,7 @@ ghost use Rattle.read_columns.specs.Columns.{ends, indexed, listed, is_own};
 ghost use Rattle.read_columns.specs.Inner.Near.{near_ends};
 
 // Eight places, each one past its column's tab; column 9 is the rest.
-#[derive(Drop)]
+#[derive(Clone, Copy)]
 pub struct Bounds {
     pub reference_sequence_name_end: usize,
     pub source_end: usize,
@@ -21,7 +21,7 @@ pub struct Bounds {
     pub phase_end: usize,
 }
 
-#[derive(Drop)]
+#[derive(Clone, Copy)]
 pub enum Indexed {
     At(Bounds),
     // Refusal 1: the line has fewer than eight tabs.

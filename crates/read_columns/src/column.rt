@@ -6,7 +6,7 @@ ghost use Rattle.read_columns.specs.Columns.{place_in, column_at};
 use super::bounds::Bounds;
 use base_scan::Place;
 
-#[derive(Drop)]
+#[derive(Clone, Copy)]
 pub enum Column {
     ReferenceSequenceName,
     Source,
@@ -20,7 +20,7 @@ pub enum Column {
     Attributes,
 }
 
-#[derive(Drop)]
+#[derive(Clone, Copy)]
 pub enum ColumnRead {
     At(Place),
     // Refusal 1.

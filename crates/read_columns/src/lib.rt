@@ -6,6 +6,8 @@
 //
 // Proved: the bounds are one past each of the first eight tabs; each answer is the definition of specs/. Another format that shares the
 // first eight columns shares the cutting and its laws. Assumes nothing.
+#![tactic(auto)]
+
 mod bounds;
 mod column;
 

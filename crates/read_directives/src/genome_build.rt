@@ -5,13 +5,13 @@ ghost use Rattle.read_directives.specs.GenomeBuild.{build_of};
 use base_scan::Place;
 
 // Where source and name stand in the text.
-#[derive(Drop)]
+#[derive(Clone, Copy)]
 pub struct GenomeBuild {
     pub source: Place,
     pub name: Place,
 }
 
-#[derive(Drop)]
+#[derive(Clone, Copy)]
 pub enum BuildRead {
     Is(GenomeBuild),
     // 6, 15 or 16.

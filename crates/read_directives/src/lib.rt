@@ -5,6 +5,8 @@
 //
 // Proved: each answer is the definition of specs/, and each refusal is given exactly when its reason holds and none further left does.
 // What is written with one space between the words reads back. Assumes nothing.
+#![tactic(auto)]
+
 mod genome_build;
 mod sequence_region;
 

@@ -5,7 +5,7 @@ ghost use Rattle.read_directives.specs.SequenceRegion.{end_of, start_of, region_
 use base_scan::Place;
 use read_numbers::Number;
 
-#[derive(Drop)]
+#[derive(Clone, Copy)]
 pub struct SequenceRegion {
     // Where the name stands in the text.
     pub name: Place,
@@ -13,7 +13,7 @@ pub struct SequenceRegion {
     pub end: u64,
 }
 
-#[derive(Drop)]
+#[derive(Clone, Copy)]
 pub enum RegionRead {
     Is(SequenceRegion),
     // 6, or 10 to 14.

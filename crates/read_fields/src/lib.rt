@@ -5,6 +5,8 @@
 // indexes it and reads columns 4 to 8 at once.
 //
 // Proved: each answer is the definition of specs/, in the order of RULES 11.1. Assumes nothing.
+#![tactic(auto)]
+
 mod phase;
 mod position;
 mod record;

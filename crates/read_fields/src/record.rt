@@ -9,7 +9,7 @@ use base_scan::Place;
 use read_columns::{Bounds, Column, Indexed};
 use read_tokens::{Phase, PhaseRead, PositionRead, Strand, StrandRead};
 
-#[derive(Drop)]
+#[derive(Clone, Copy)]
 pub enum Score {
     // The exact byte `.`.
     Missing,
@@ -17,7 +17,7 @@ pub enum Score {
     Token(Place),
 }
 
-#[derive(Drop)]
+#[derive(Clone, Copy)]
 pub struct Record {
     pub bounds: Bounds,
     pub start: u64,
@@ -27,7 +27,7 @@ pub struct Record {
     pub phase: Phase,
 }
 
-#[derive(Drop)]
+#[derive(Clone, Copy)]
 pub enum RecordRead {
     Is(Record),
     // 1, 2, 17, 3 or 4.

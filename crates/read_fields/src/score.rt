@@ -6,7 +6,7 @@ ghost use Rattle.read_fields.specs.Inner.ByBounds.{score_in};
 use base_scan::Place;
 use read_columns::{Bounds, Column};
 
-#[derive(Drop)]
+#[derive(Clone, Copy)]
 pub enum ScoreRead {
     // The exact byte `.`.
     Missing,

@@ -12,7 +12,7 @@ use read_columns::{Bounds, Column};
 use read_fields::{Record, RecordRead};
 
 // What laying the sheet begins with.
-#[derive(Drop)]
+#[derive(Clone, Copy)]
 pub enum Admitted {
     // The numbers, and the line's bounds.
     Is(Numbers, Bounds),

@@ -20,7 +20,7 @@ use read_tokens::{Phase, Strand};
 use read_values::{NextValue, ValueCursor};
 
 // What goes beside the sheet.
-#[derive(Drop)]
+#[derive(Clone, Copy)]
 pub struct Numbers {
     pub start: u64,
     pub end: u64,
@@ -28,7 +28,7 @@ pub struct Numbers {
     pub phase: Phase,
 }
 
-#[derive(Drop)]
+#[derive(Clone, Copy)]
 pub enum Judged {
     // The numbers, and the length of the sheet.
     Is(Numbers, usize),
@@ -37,7 +37,7 @@ pub enum Judged {
 }
 
 // What laying the sheet takes besides.
-#[derive(Drop)]
+#[derive(Clone, Copy)]
 pub enum Surveyed {
     // The numbers, the line's bounds, and the length of the sheet.
     Is(Numbers, Bounds, usize),
@@ -46,7 +46,7 @@ pub enum Surveyed {
 }
 
 // The numbers alone.
-#[derive(Drop)]
+#[derive(Clone, Copy)]
 pub enum NumbersRead {
     Is(Numbers),
     // As `Judged`.

@@ -6,6 +6,8 @@
 //
 // Proved: the answers are those of specs/, refusals in the order of RULES 11.2. The line is indexed once, and no attribute or value is read
 // more than a fixed number of times. Assumes nothing.
+#![tactic(auto)]
+
 mod admitting;
 mod judging;
 mod texts;

@@ -2,7 +2,7 @@
 -- directive. Else starts with `#`: comment, text from byte 1. Else, the empty line included: record. Of a directive, after `##`, the key
 -- runs to the first ASCII white space; the value is what follows that byte, and is absent only if there was no such byte. Assumes nothing:
 -- these are definitions.
-use Rattle.std.specs.Prelude.{ℕ, ◌+◌, Bool, true, false, cond, List, [], ◌∷◌, eqb, length}
+use Rattle.std.specs.Prelude.{ℕ, ◌+◌, cond, List, [], ◌∷◌, eqb, length}
 use Rattle.base_lists.specs.Bytes.{hash}
 use Rattle.base_words.specs.Word.{space}
 use Rattle.read_kind.specs.declared.kind.Kind.{Kind}

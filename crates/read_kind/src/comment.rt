@@ -5,7 +5,7 @@ ghost use Rattle.read_kind.specs.Kind.{comment_of};
 use super::kind::Kind;
 use base_scan::Place;
 
-#[derive(Drop)]
+#[derive(Clone, Copy)]
 pub enum CommentText {
     At(Place),
     // The line is no comment.

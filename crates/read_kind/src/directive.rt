@@ -6,14 +6,14 @@ ghost use Rattle.read_kind.specs.Kind.{value_behind, directive_of};
 use super::kind::Kind;
 use base_scan::Place;
 
-#[derive(Drop)]
+#[derive(Clone, Copy)]
 pub enum ValueText {
     At(Place),
     // No white space follows the key.
     Absent,
 }
 
-#[derive(Drop)]
+#[derive(Clone, Copy)]
 pub enum DirectiveText {
     // The key and the value.
     Is(Place, ValueText),

@@ -2,7 +2,7 @@
 ghost use Rattle.std.specs.Prelude.{◌≡◌};
 ghost use Rattle.read_kind.specs.Kind.{kind};
 
-#[derive(Drop)]
+#[derive(Clone, Copy)]
 pub enum Kind {
     Directive,
     Comment,

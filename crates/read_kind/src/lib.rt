@@ -4,6 +4,8 @@
 // Nothing is copied: a comment's text, a key and a value are places, which `base_scan::text` reads.
 //
 // Proved: each answer is the definition of specs/. Assumes nothing.
+#![tactic(auto)]
+
 mod comment;
 mod directive;
 mod kind;

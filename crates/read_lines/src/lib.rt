@@ -6,18 +6,20 @@
 //
 // Proved: a step is its definition, and steps from the start hand out exactly the lines of the text, in order, and then are done.
 // Assumes nothing.
+#![tactic(auto)]
+
 ghost use Rattle.std.specs.Prelude.{◌≡◌, ◌≤◌, ◌<◌, length};
 ghost use Rattle.read_lines.specs.Blank.{blank_at, past_blank};
 ghost use Rattle.read_lines.specs.Step.{fresh, line_end, next_line};
 
 use base_scan::Place;
 
-#[derive(Drop)]
+#[derive(Clone, Copy)]
 pub struct Cursor {
     pub at: usize,
 }
 
-#[derive(Drop)]
+#[derive(Clone, Copy)]
 pub enum Next {
     // The line without its ending, and the cursor behind it.
     Line(Place, Cursor),

@@ -4,6 +4,8 @@
 // The lookup with a fallback is added.
 //
 // Proved: each answer is the definition of specs/. A lookup decodes each tag and needs no buffer for it. Assumes nothing.
+#![tactic(auto)]
+
 ghost use Rattle.std.specs.Prelude.{◌≡◌};
 ghost use Rattle.read_lookup.specs.Lookup.{find_tag, value_or};
 
@@ -11,7 +13,7 @@ use base_scan::Place;
 use read_attributes::Step;
 
 // Where the value of a tag stands in the column.
-#[derive(Drop)]
+#[derive(Clone, Copy)]
 pub enum Found {
     At(Place),
     Absent,

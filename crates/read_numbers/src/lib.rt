@@ -5,6 +5,8 @@
 //
 // Proved: what is read is the value of the digits, whatever their count, and nothing else is read. One proof over the width and the sign
 // rule serves the three forms. Assumes nothing.
+#![tactic(auto)]
+
 mod read;
 
 pub use read::{Number, position, region_position, version_part};

@@ -5,7 +5,7 @@ ghost use Rattle.base_scan.specs.Find.{is};
 ghost use Rattle.read_numbers.specs.Number.{numeral, position, region_position, version_part};
 
 // What a text is as a number. Which refusal an invalid one gives, the caller's place says.
-#[derive(Drop)]
+#[derive(Clone, Copy)]
 pub enum Number {
     Value(u64),
     Invalid,

@@ -2,7 +2,7 @@
 -- left of the first, and then of what waits there with the second. Assumes nothing.
 use Prim.Native.Nat.{ℕ, suc, ◌-◌}
 use native.Mathlib.Omega.{arith}
-use mathlib.Core.Path.{◌≡◌, refl, sym, ap, ◌∙◌}
+use mathlib.Core.Path.{◌≡◌, refl, sym, ap, ◌∙◌, subst}
 use mathlib.Core.Logic.{◌≢◌}
 use mathlib.Core.Bool.{Bool, true, false, cond}
 use mathlib.Core.List.{List, [], ◌∷◌, ◌++◌, append_assoc, append-nil}
@@ -56,7 +56,7 @@ leave_append (x ∷ []) b = go (eqb x cr) refl
   where
     go : (t : Bool) → eqb x cr ≡ t
         → Leave (x ∷ b) (cond t [] (x ∷ []) ++ chomped (waiting (cond t Waits Fits) ++ b)) (ending (waiting (cond t Waits Fits) ++ b))
-    go true e = rw (eqb-true x cr e) (refl, refl)
+    go true e = subst (λ (y : ℕ). Leave (y ∷ b) (chomped (cr ∷ b)) (ending (cr ∷ b))) (sym (eqb-true x cr e)) (refl, refl)
     go false e = no_return x b e
 leave_append (x ∷ y ∷ u) b = let p = leave_append (y ∷ u) b in (ap (λ (l : List ℕ). x ∷ l) p.0, p.1)
 

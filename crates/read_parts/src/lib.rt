@@ -7,6 +7,8 @@
 //
 // Proved: each answer and the whole hold are those of the definition, for every state, hold and part; and calls in a row, however the
 // text is cut, tell the lines of the whole text in order, each of more than 65,536 bytes as refusal 25. Assumes nothing.
+#![tactic(auto)]
+
 mod state;
 
 ghost use Rattle.std.specs.Prelude.{◌≡◌};
@@ -18,7 +20,7 @@ pub use state::{State, Tail};
 pub const HOLD_LENGTH: usize = 65536;
 
 // What a call answers. The state is the one for the next call; where a line has ended it is fresh.
-#[derive(Drop)]
+#[derive(Clone, Copy)]
 pub enum Part {
     // A line has ended: its length, from the hold's start on; the bytes taken; the state.
     Line(usize, usize, State),

@@ -6,7 +6,7 @@ ghost use Rattle.read_parts.specs.State.{fresh, is_long, is_blank, skipped, behi
 ghost use Rattle.read_parts.specs.Inner.Store.{Ready, Stores, Grows, Settles};
 
 // What is known of the line's end.
-#[derive(Drop)]
+#[derive(Clone, Copy)]
 pub enum Tail {
     // All that was taken of the line stands in the hold, and stays.
     Fits,
@@ -16,7 +16,7 @@ pub enum Tail {
     Long,
 }
 
-#[derive(Drop)]
+#[derive(Clone, Copy)]
 pub struct State {
     // So many of the hold's first bytes belong to the line.
     pub held: usize,

@@ -16,7 +16,7 @@ use read_columns::{Bounds, Column};
 use read_judge::{Admitted, Numbers, Surveyed};
 use read_values::{NextValue, ValueCursor};
 
-#[derive(Drop)]
+#[derive(Clone, Copy)]
 pub enum Unfolded {
     // The sheet stands at the buffer's start: the numbers beside it, and its length.
     Done(Numbers, usize),
@@ -27,7 +27,7 @@ pub enum Unfolded {
 }
 
 // Where the attributes end that were laid, and how many they are.
-#[derive(Drop)]
+#[derive(Clone, Copy)]
 struct Laid {
     to: usize,
     count: usize,

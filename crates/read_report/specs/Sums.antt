@@ -5,7 +5,7 @@ use Rattle.read_lines.specs.Lines.{lines}
 use Rattle.read_verdict.specs.Verdict.{verdict}
 use Rattle.read_report.specs.declared.totals.Totals.{Totals}
 use Rattle.read_report.specs.declared.totals.Report.{Report}
-use Rattle.read_report.specs.Report.{length_of, nothing, counted}
+use Rattle.read_report.specs.Report.{length_of}
 
 -- numbers added up
 abbrev pub total : List ℕ → ℕ

@@ -6,6 +6,8 @@
 // Proved: the report is the fold of specs/ over the lines of the text. Records, directives, comments and refused lines add up to the
 // lines handed out, the sixty-four and the reversed ones to the records; the sum of lengths is exact, and no count can wrap
 // (proofs/SumLaws.antt). Assumes nothing.
+#![tactic(auto)]
+
 mod add;
 mod morning;
 mod totals;

@@ -6,7 +6,7 @@ use super::totals::Report;
 use read_lines::{Cursor, Next};
 
 // The report, and the number of the refusal beside it, or 0: an enum cannot hold the array.
-#[derive(Drop)]
+#[derive(Clone, Copy)]
 pub struct Morning {
     pub refused: u32,
     pub report: Report,

@@ -2,7 +2,7 @@
 ghost use Rattle.std.specs.Prelude.{◌≡◌};
 ghost use Rattle.read_report.specs.Report.{no_totals};
 
-#[derive(Drop)]
+#[derive(Clone, Copy)]
 pub struct Totals {
     // Lines that unfold, the reversed ones among them.
     pub records: u64,
@@ -23,7 +23,7 @@ pub struct Totals {
 }
 
 // The totals are a struct of their own: they go from line to line by value, and the sixty-four are not to be copied for each line.
-#[derive(Drop)]
+#[derive(Clone, Copy)]
 pub struct Report {
     // How many lengths lie in each power of two: `lengths[i]` counts those from 2^i on, before 2^(i + 1).
     pub lengths: [u64; 64],

@@ -2,6 +2,8 @@
 // In the Rust: `parse_score` in `record.rs`.
 //
 // Proved: the answer is the grammar of specs/. Assumes nothing.
+#![tactic(auto)]
+
 ghost use Rattle.std.specs.Prelude.{◌≡◌, ◌≤◌, length, drop};
 ghost use Rattle.base_scan.specs.Find.{seek};
 ghost use Rattle.read_score.specs.Score.{no_digit, is_exponent, is_fraction, is_score};

@@ -107,10 +107,10 @@ pub strand_number_one : (a b : Strand) → strand_number a ≡ strand_number b �
 unfolding strand_number
 strand_number_one =
     numbered strand_number (strand.None ∷ strand.Forward ∷ strand.Reverse ∷ strand.Unknown ∷ []) strand.None
-    (λ t. elim t [ strand.None ↦ refl | strand.Forward ↦ refl | strand.Reverse ↦ refl | strand.Unknown ↦ refl ])
+    (λ t. elim t as (λ t. get_or (strand.None ∷ strand.Forward ∷ strand.Reverse ∷ strand.Unknown ∷ []) (strand_number t) strand.None ≡ t) [ strand.None ↦ refl | strand.Forward ↦ refl | strand.Reverse ↦ refl | strand.Unknown ↦ refl ])
 
 pub phase_number_one : (a b : Phase) → phase_number a ≡ phase_number b → a ≡ b
 unfolding phase_number
 phase_number_one =
     numbered phase_number (phase.Zero ∷ phase.One ∷ phase.Two ∷ phase.None ∷ []) phase.None
-    (λ p. elim p [ phase.Zero ↦ refl | phase.One ↦ refl | phase.Two ↦ refl | phase.None ↦ refl ])
+    (λ p. elim p as (λ p. get_or (phase.Zero ∷ phase.One ∷ phase.Two ∷ phase.None ∷ []) (phase_number p) phase.None ≡ p) [ phase.Zero ↦ refl | phase.One ↦ refl | phase.Two ↦ refl | phase.None ↦ refl ])

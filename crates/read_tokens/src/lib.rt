@@ -5,6 +5,8 @@
 // elsewhere.
 //
 // Proved: each answer is the definition of specs/. Assumes nothing.
+#![tactic(auto)]
+
 mod phase;
 mod position;
 mod strand;

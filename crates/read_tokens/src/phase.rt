@@ -3,7 +3,7 @@ ghost use Rattle.std.specs.Prelude.{◌≡◌};
 ghost use Rattle.read_tokens.specs.Tokens.{phase_number, phase_of, phase_byte};
 
 // By number 0 to 3, in this order (RULES 4.4).
-#[derive(Drop)]
+#[derive(Clone, Copy)]
 pub enum Phase {
     Zero,
     One,
@@ -12,7 +12,7 @@ pub enum Phase {
     None,
 }
 
-#[derive(Drop)]
+#[derive(Clone, Copy)]
 pub enum PhaseRead {
     Is(Phase),
     // 1 or 4.

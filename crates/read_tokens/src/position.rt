@@ -4,7 +4,7 @@ ghost use Rattle.read_tokens.specs.Tokens.{position_of};
 
 use read_numbers::Number;
 
-#[derive(Drop)]
+#[derive(Clone, Copy)]
 pub enum PositionRead {
     // 1 to 18446744073709551615.
     Is(u64),

@@ -3,7 +3,7 @@ ghost use Rattle.std.specs.Prelude.{◌≡◌};
 ghost use Rattle.read_tokens.specs.Tokens.{strand_number, strand_of, strand_byte};
 
 // By number 0 to 3, in this order (RULES 4.3).
-#[derive(Drop)]
+#[derive(Clone, Copy)]
 pub enum Strand {
     // `.`
     None,
@@ -15,7 +15,7 @@ pub enum Strand {
     Unknown,
 }
 
-#[derive(Drop)]
+#[derive(Clone, Copy)]
 pub enum StrandRead {
     Is(Strand),
     // 1 or 3.

@@ -1,6 +1,6 @@
 -- A text cut at each separator, and pieces joined by it; with no separator it is one piece. So a value is cut at each `,` (RULES 5.4;
 -- GFF3, Column 9, attributes). Assumes nothing: these are definitions.
-use Rattle.std.specs.Prelude.{ℕ, Bool, true, false, cond, List, [], ◌∷◌, ◌++◌, eqb}
+use Rattle.std.specs.Prelude.{ℕ, cond, List, [], ◌∷◌, ◌++◌, eqb}
 
 -- the pieces between the separators c, where `piece` was read since the last one
 unfoldable pub pieces_after : ℕ → List ℕ → List ℕ → List (List ℕ)

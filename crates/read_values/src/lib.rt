@@ -4,19 +4,21 @@
 // With no `,` the value is one string.
 //
 // Proved: a step is its definition, and steps in a row hand out exactly the pieces of the text between commas. Assumes nothing.
+#![tactic(auto)]
+
 ghost use Rattle.std.specs.Prelude.{◌≡◌};
 ghost use Rattle.read_values.specs.Step.{fresh, next_value};
 
 use base_scan::Place;
 
 // Where the next value begins, and whether the last one is out: `a,` ends with an empty value still to come.
-#[derive(Drop)]
+#[derive(Clone, Copy)]
 pub struct ValueCursor {
     pub at: usize,
     pub out: bool,
 }
 
-#[derive(Drop)]
+#[derive(Clone, Copy)]
 pub enum NextValue {
     // The value as it stands, and the cursor behind it.
     Is(Place, ValueCursor),

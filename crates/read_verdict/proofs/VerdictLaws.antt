@@ -3,7 +3,7 @@ use Prim.Native.Nat.{ℕ}
 use native.Mathlib.Omega.{arith}
 use mathlib.Core.Path.{◌≡◌, refl, ◌∙◌}
 use mathlib.Core.Logic.{⊎_elim}
-use mathlib.Core.Bool.{true, false, true≢false}
+use mathlib.Core.Bool.{false, true≢false}
 use mathlib.Core.List.{List}
 use Rattle.base_buffer.specs.Answer.{refusal_of}
 use Rattle.base_buffer.proofs.AnswerLaws.{first_among, none_of, unless_is, unless_not}
@@ -24,7 +24,7 @@ use Rattle.read_judge.specs.declared.judging.NumbersRead.TheVariants as numbers_
 use Rattle.read_judge.specs.Judge.{position_in, no_position, numbers_of, unfold_reasons, judged, numbers_judged}
 use Rattle.read_judge.proofs.SurveyLaws.{unfold_numbered}
 use Rattle.read_verdict.specs.declared.Verdict.{Verdict}
-use Rattle.read_verdict.specs.declared.Verdict.TheVariants.{Directive, Comment, Record, Refused}
+use Rattle.read_verdict.specs.declared.Verdict.TheVariants.{Record, Refused}
 use Rattle.read_verdict.specs.Verdict.{by_judge, by_kind, verdict, refusals, Position, Sound}
 
 -- ── positions ─────────────────────────────────────────────────────────────────────────────────

@@ -5,13 +5,15 @@
 //
 // Proved: the answer is the definition of specs/; the numbers of a record are positions, and a refusal is one of seven
 // (proofs/VerdictLaws.antt). Assumes nothing.
+#![tactic(auto)]
+
 ghost use Rattle.std.specs.Prelude.{◌≡◌};
 ghost use Rattle.read_verdict.specs.Verdict.{verdict};
 
 use read_judge::{Numbers, NumbersRead};
 use read_kind::Kind;
 
-#[derive(Drop)]
+#[derive(Clone, Copy)]
 pub enum Verdict {
     Directive,
     Comment,

@@ -22,7 +22,7 @@ use Rattle.write_decimals.proofs.DecimalLaws.{decimal_some, version_part_decimal
 use Rattle.read_numbers.proofs.NumberLaws.{numeral_bounds}
 use Rattle.read_version.specs.declared.Part.TheVariants as part
 use Rattle.read_version.specs.declared.VersionRead.{VersionRead}
-use Rattle.read_version.specs.declared.VersionRead.TheVariants.{Is, Refused}
+use Rattle.read_version.specs.declared.VersionRead.TheVariants.{Refused}
 use Rattle.read_version.specs.GffVersion.{upto, has_dot, beyond, version, patch_of, minor_of, version_of}
 
 -- ── a part, then a dot or the end ─────────────────────────────────────────────────────────────

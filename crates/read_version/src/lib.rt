@@ -5,26 +5,28 @@
 //
 // Proved: the answer is the definition of specs/, and each refusal is given exactly when its reason holds and none further left does. What
 // is written with one `.` between the parts reads back. Assumes nothing.
+#![tactic(auto)]
+
 ghost use Rattle.std.specs.Prelude.{◌≡◌, ◌≤◌, drop};
 ghost use Rattle.read_version.specs.GffVersion.{patch_of, minor_of, version_of};
 
 use read_numbers::Number;
 
 // A part that may be absent.
-#[derive(Drop)]
+#[derive(Clone, Copy)]
 pub enum Part {
     Is(u32),
     Absent,
 }
 
-#[derive(Drop)]
+#[derive(Clone, Copy)]
 pub struct GffVersion {
     pub major: u32,
     pub minor: Part,
     pub patch: Part,
 }
 
-#[derive(Drop)]
+#[derive(Clone, Copy)]
 pub enum VersionRead {
     Is(GffVersion),
     // 6 to 9.

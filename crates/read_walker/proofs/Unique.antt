@@ -10,7 +10,7 @@ use types.Logic.{Logic}
 use contract.Lifetimes.{Lfts}
 use contract.Monad.{Fun, fact}
 use types.Kit.{raw, ◌$◌, ◌∵◌, !, qed, suffices, done}
-use denote.Ref.{Bor, MutBor}
+use denote.Ref.{Bor}
 use denote.Steps.{heard}
 use denote.Triple.Clauses.{AtExit}
 use denote.Triple.Walked.{says}
@@ -43,7 +43,7 @@ follows {𝓤 = 𝓤} 𝓛 P Q R f =
 -- same arguments, follows that they are equal
 module _ {M : Type 1} {𝓤 : Ura M} (𝓛 : Logic 𝓤) (mem : Memory → SProp 𝓤) (run : Routine → Fun 𝓤)
     (κs : Lfts 1) where
-  walk_over_one : (c : MutBor (List ℕ)) (x y : Attributes) (s t : AtExit walk_over.ended κs)
+  walk_over_one : (c : Bor (List ℕ)) (x y : Attributes) (s t : AtExit walk_over.ended κs)
       → ent 𝓤 (sep 𝓤 ((walk_over.clauses 𝓛 mem run κs (c, tt)).ensures tt x s)
       ((walk_over.clauses 𝓛 mem run κs (c, tt)).ensures tt y t)) (fact 𝓤 (x ≡ y))
   walk_over_one c x y s t = follows 𝓛 _ _ _ (λ p q. ap₂ walker (p.0 ∙ sym q.0) (p.1 ∙ sym q.1))
@@ -61,7 +61,7 @@ module _ {M : Type 1} {𝓤 : Ura M} (𝓛 : Logic 𝓤) (mem : Memory → SProp
 -- the same of `get`, which has two lifetimes
 module _ {M : Type 1} {𝓤 : Ura M} (𝓛 : Logic 𝓤) (mem : Memory → SProp 𝓤) (run : Routine → Fun 𝓤)
     (κs : Lfts 2) where
-  get_one : (d : Attributes) (g : MutBor (List ℕ)) (x y : Found) (s t : AtExit get.ended κs)
+  get_one : (d : Attributes) (g : Bor (List ℕ)) (x y : Found) (s t : AtExit get.ended κs)
       → ent 𝓤 (sep 𝓤 ((get.clauses 𝓛 mem run κs (d, (g, tt))).ensures tt x s)
       ((get.clauses 𝓛 mem run κs (d, (g, tt))).ensures tt y t)) (fact 𝓤 (x ≡ y))
   get_one d g x y s t = follows 𝓛 _ _ _ (λ p q. p ∙ sym q)

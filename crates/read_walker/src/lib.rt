@@ -2,11 +2,12 @@
 // In the Rust: `Attributes` in `record/attributes.rs`.
 //
 // Each function takes the walker apart and leaves the work to one of `read_attributes` or `read_lookup`, on a slice and a cursor or a tag.
-// A function over a struct that holds a reference is proved by hand, step by step of its code, so there are few, and none has a branch or
-// a loop; `first_field` takes a plain slice, so its callers need no such proof.
+// So there are few, and none has a branch or a loop; `first_field` takes a plain slice, for callers that keep no walker.
 //
 // Proved: a walker starts at 0, answers the attribute at its own place in its own column, moves to the place given, and looks a tag up in
 // its column; each promise allows one result. Assumes nothing.
+#![tactic(auto)]
+
 ghost use Rattle.std.specs.Prelude.{◌≡◌};
 ghost use Rattle.read_lookup.specs.Lookup.{find_tag};
 ghost use Rattle.read_attributes.specs.Step.{next_field};
@@ -15,7 +16,7 @@ use read_attributes::Step;
 use read_lookup::Found;
 
 // Column 9, and where the next attribute begins. Any place is allowed: `next_field` says what stands at one beyond the column.
-#[derive(Drop)]
+#[derive(Clone, Copy)]
 pub struct Attributes<'a> {
     pub column: &'a [u8],
     pub at: usize,

@@ -4,14 +4,14 @@ ghost use Rattle.sheet_form.specs.Cursor.{count_at, section_at};
 
 use base_scan::Place;
 
-#[derive(Drop)]
+#[derive(Clone, Copy)]
 pub enum CountRead {
     // The count, and the cursor behind it.
     Is(usize, usize),
     Malformed,
 }
 
-#[derive(Drop)]
+#[derive(Clone, Copy)]
 pub enum SectionRead {
     // Where the section's bytes stand; their end is the cursor behind the section.
     At(Place),

@@ -1,6 +1,8 @@
 // Lays the parts of a field sheet, counts and the texts behind them, over a lent buffer.
 //
 // Proved: what is laid is the definition of `sheet_form`. Assumes nothing.
+#![tactic(auto)]
+
 ghost use Rattle.base_buffer.specs.Laid.{Lays};
 ghost use Rattle.percent_coding.specs.Percent.{decoded};
 ghost use Rattle.sheet_form.specs.Sheet.{count_of, section_of};

@@ -5,6 +5,8 @@
 //
 // Proved: each answer and the whole content of the buffer, for every input; what is accepted reads back as it was, and is one line.
 // Assumes nothing.
+#![tactic(auto)]
+
 ghost use Rattle.std.specs.Prelude.{◌≡◌};
 ghost use Rattle.base_buffer.specs.Answer.{Wrote, refusal_of};
 ghost use Rattle.write_comment.specs.Comment.{hashed, comment_reasons, comment_line};

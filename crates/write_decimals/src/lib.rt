@@ -5,6 +5,8 @@
 //
 // Proved: what is written is the definition of specs/, and reads back as a position, a region's position or a part of a version. Assumes
 // nothing.
+#![tactic(auto)]
+
 ghost use Rattle.std.specs.Prelude.{◌≡◌, [], ◌≤◌, length};
 ghost use Rattle.base_buffer.specs.Answer.{Wrote};
 ghost use Rattle.base_buffer.specs.Laid.{Lays};

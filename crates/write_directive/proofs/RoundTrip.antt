@@ -1,11 +1,10 @@
 -- What the writer accepts reads back as it was, and is one line: where no reason holds to refuse it, a directive is read as one of the
 -- same key and value text, and a typed value comes back from its own reader. Assumes nothing.
-use Prim.Native.Nat.{ℕ, ◌+◌, ◌≤◌, ◌<◌}
+use Prim.Native.Nat.{ℕ, ◌≤◌, ◌<◌}
 use native.Mathlib.Omega.{arith}
 use mathlib.Core.Path.{◌≡◌, refl, sym, ap, ◌∙◌}
 use mathlib.Core.Logic.{◌≢◌}
 use mathlib.Core.Bool.{true, false, not, ◌&&◌, true≢false}
-use mathlib.Core.Option.{some}
 use mathlib.Core.List.{List, [], ◌∷◌, ◌++◌, append-nil}
 use lib.Dec.{eqb}
 use Rattle.base_lists.specs.Bytes.{Every, Lacks, lf, cr, sp}

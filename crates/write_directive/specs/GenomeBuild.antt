@@ -1,5 +1,5 @@
 -- The value of `genome-build` as it is written, GFF3, Directives; RULES 7.4: source, name. Assumes nothing: these are definitions.
-use Rattle.std.specs.Prelude.{ℕ, false, not, ◌||◌, List, [], ◌∷◌, ◌++◌}
+use Rattle.std.specs.Prelude.{ℕ, false, not, ◌||◌, List, ◌∷◌, ◌++◌}
 use Rattle.base_lists.specs.Bytes.{ascii, sp}
 use Rattle.base_words.specs.Same.{same}
 use Rattle.base_buffer.specs.Answer.{Reason}

@@ -1,5 +1,5 @@
 -- The value of `sequence-region` as it is written, GFF3, Directives; RULES 7.3: name, start, end. Assumes nothing: these are definitions.
-use Rattle.std.specs.Prelude.{ℕ, false, not, ◌||◌, List, [], ◌∷◌, ◌++◌, eqb}
+use Rattle.std.specs.Prelude.{ℕ, false, not, ◌||◌, List, ◌∷◌, ◌++◌, eqb}
 use Rattle.base_lists.specs.Bytes.{ascii, sp}
 use Rattle.base_words.specs.Same.{same}
 use Rattle.base_buffer.specs.Answer.{Reason}

@@ -11,7 +11,7 @@ use base_buffer::Written;
 use read_version::GffVersion;
 
 // The value, beside the two texts that it may use, `first` and `second`.
-#[derive(Drop)]
+#[derive(Clone, Copy)]
 pub enum Value {
     None,
     // `first`, as it is.

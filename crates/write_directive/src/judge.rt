@@ -4,7 +4,7 @@ ghost use Rattle.base_buffer.specs.Answer.{refusal_of};
 ghost use Rattle.write_directive.specs.Judge.{no_faults, reasons};
 
 // What is wrong with a value.
-#[derive(Drop)]
+#[derive(Clone, Copy)]
 pub(crate) struct Faults {
     // A text is too long.
     pub(crate) long: bool,

@@ -5,6 +5,8 @@
 //
 // Proved: each answer and the whole content of the buffer, for every input; what is accepted reads back as it was, and is one line.
 // Assumes nothing.
+#![tactic(auto)]
+
 mod directive;
 mod genome_build;
 mod gff_version;

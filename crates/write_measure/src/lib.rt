@@ -4,6 +4,8 @@
 //
 // Proved: the answer is that of specs/, refusals in the order of RULES 11.3. Each byte of the sheet is read a fixed number of times.
 // Assumes nothing.
+#![tactic(auto)]
+
 mod length;
 mod measuring;
 mod reasons;
@@ -11,7 +13,7 @@ mod reasons;
 pub use measuring::{Measured, measure, refusal};
 
 // How far measuring or writing came in the sheet, and in the line. Past the sheet's end: it is not of the form there.
-#[derive(Drop)]
+#[derive(Clone, Copy)]
 pub struct Spot {
     pub from: usize,
     pub to: usize,

@@ -5,7 +5,7 @@ ghost use Rattle.base_buffer.specs.Answer.{refusal_of};
 ghost use Rattle.sheet_form.specs.Sheet.{sheet_read, is_some};
 ghost use Rattle.write_measure.specs.Record.{record_reasons, measured};
 
-#[derive(Drop)]
+#[derive(Clone, Copy)]
 pub enum Measured {
     // The length of the line.
     Is(usize),

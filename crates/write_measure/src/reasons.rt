@@ -11,7 +11,7 @@ use base_scan::Place;
 use sheet_form::SectionRead;
 
 // What is wrong with a record.
-#[derive(Drop)]
+#[derive(Clone, Copy)]
 struct Faults {
     // A start or an end of zero.
     position: bool,

@@ -6,6 +6,8 @@
 // Proved: the answer and the whole buffer are those that the definitions of `write_measure` give, refusals in the order of RULES 11.3; a
 // refused record changes no byte. The record is judged before its first byte is laid, and measured where it might not fit; each byte of the
 // sheet is read a fixed number of times. Assumes nothing.
+#![tactic(auto)]
+
 mod lay;
 mod write;
 

@@ -1,6 +1,8 @@
 // Tells, before a text is written, whether it is too long, has a line end or white space, or is no word.
 //
 // Proved: each answer, for every text. Assumes nothing.
+#![tactic(auto)]
+
 ghost use Rattle.std.specs.Prelude.{◌≡◌};
 ghost use Rattle.base_words.specs.Word.{is_space};
 ghost use Rattle.write_texts.specs.Text.{holds, long, breaks, unfit};

@@ -1,0 +1,7 @@
+-- `refuse`: one text behind the other. Assumes nothing.
+use native.Mathlib.Omega.{arith}
+use Rattle.program_rewrite.proofs.RewriteLaws.{refused}
+use Rattle.program_rewrite.proofs.line.refuse.Goals as goal
+
+pub returns : goal.returns
+returns c = refused c.args.n (omega (arith, c.ranges.n)) c.requires c.lay-at.ensures c.lay_decimal.ensures

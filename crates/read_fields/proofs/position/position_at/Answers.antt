@@ -1,0 +1,15 @@
+-- `position_at`: the line's own bounds first, then the position. Assumes nothing.
+use mathlib.Core.Path.{sym, ◌∙◌}
+use Rattle.read_fields.specs.Fields.{position_at}
+use Rattle.read_columns.proofs.ColumnsLaws.{own_ends}
+use Rattle.read_fields.proofs.position.position_at.Goals as goal
+
+pub returns-then-own : goal.returns-then-own
+unfolding position_at
+returns-then-own c =
+    let own = sym c.own.ensures ∙ c.if-own.true in
+    rw (c.position_of.ensures, c.text_in.ensures.text, own, own_ends _ _ own)
+
+pub returns-else-own : goal.returns-else-own
+unfolding position_at
+returns-else-own c = rw (← c.own.ensures, c.if-own.false)

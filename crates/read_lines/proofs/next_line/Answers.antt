@@ -1,0 +1,30 @@
+-- `next_line` answers `next_line`. Assumes nothing.
+use native.Mathlib.Omega.{arith}
+use borrow.Author.Tests.{eq-eqb, ne_eqb, le-leb, lt-leb}
+use Rattle.read_lines.specs.Step.{next_line}
+use Rattle.read_lines.proofs.BlankLaws.{past_feed}
+use Rattle.read_lines.proofs.next_line.Goals as goal
+
+pub returns-then-text-at : goal.returns-then-text-at
+unfolding next_line
+returns-then-text-at c = rw (← c.past_blank-at.ensures, le-leb _ _ c.if-text-at.true)
+
+pub returns-then-feed-text : goal.returns-then-feed-text
+unfolding next_line
+returns-then-feed-text c = rw (← c.past_blank-at.ensures, lt-leb _ _ c.if-text-at.false, ← c.find-feed.ensures.first, eq-eqb _ _ c.if-feed-text.true)
+
+pub chomp-end-requires : goal.chomp-end-requires
+chomp-end-requires c =
+    let h = past_feed c.args.text.now _ c.past_blank-at.ensures c.find-feed.ensures.first c.if-text-at.false in
+    (omega arith, c.find-feed.ensures.within)
+
+pub returns : goal.returns
+unfolding next_line
+returns c =
+    rw (
+      ← c.past_blank-at.ensures,
+      lt-leb _ _ c.if-text-at.false,
+      ← c.find-feed.ensures.first,
+      ne_eqb _ _ c.if-feed-text.false,
+      c.chomp-end.ensures,
+    )

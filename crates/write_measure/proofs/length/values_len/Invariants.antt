@@ -1,0 +1,26 @@
+-- `values_len`: what measures the values that are left, from the cursor on, measures all of them. Assumes nothing.
+use Prim.Native.Nat.{◌+◌, ◌*◌, ◌≤◌}
+use mathlib.Core.List.{map}
+use lib.ListN.{length, drop}
+use Rattle.base_lists.specs.Bytes.{comma}
+use Rattle.percent_sets.specs.declared.Set.TheVariants.{Attribute}
+use Rattle.sheet_form.specs.Reader.{times}
+use Rattle.sheet_form.specs.Sheet.{section}
+use Rattle.sheet_form.specs.Inner.Past.{Passes}
+use Rattle.write_measure.specs.declared.Spot.{Spot}
+use Rattle.write_measure.specs.Inner.Led.{as_measured, led, Measures}
+use Rattle.write_measure.proofs.length.values_len.Given as goal
+
+abbrev pub invariant-loop-left : goal.invariant-loop-left
+invariant-loop-left l =
+    (l.from ≤ length l.sheet)
+    × (l.to + 3 * l.first ≤ l.n + 3 * l.from)
+    × ((r : Spot)
+    → Passes (λ vs. Measures (led comma comma (map (as_measured l.coded Attribute) vs)) l.from l.to r) l.sheet r.from
+    (times section l.left (drop l.from l.sheet))
+    → Passes (λ vs. Measures (led comma comma (map (as_measured l.coded Attribute) vs)) l.first l.n r) l.sheet r.from
+    (times section l.count (drop l.first l.sheet)))
+
+abbrev pub decreases-loop-left : goal.decreases-loop-left
+decreases-loop-left l =
+    l.left

@@ -1,0 +1,40 @@
+-- `lay_values`: what lays the values that are left, from the cursor on, lays all of them. Assumes nothing.
+use Prim.Native.Nat.{◌-◌}
+use native.Mathlib.Omega.{arith}
+use mathlib.Core.Path.{refl}
+use Rattle.base_lists.specs.Bytes.{comma}
+use Rattle.percent_sets.specs.declared.Set.TheVariants.{Attribute}
+use Rattle.percent_coding.specs.Percent.{encoded}
+use Rattle.percent_sets.specs.Sets.{escapes}
+use Rattle.base_buffer.proofs.LaidLaws.{lays_length}
+use Rattle.sheet_form.specs.Sheet.{section}
+use Rattle.sheet_form.proofs.PastLaws.{past_weaken, past_inside, past_stuck}
+use Rattle.write_record.proofs.LoopLaws.{lays_from, lays_more, lays_last}
+use Rattle.write_record.proofs.lay.lay_values.Goals as goal
+
+pub loop-left-init : goal.loop-left-init
+loop-left-init c = (c.requires, omega arith, refl, λ r R D p. past_weaken (λ vs q. lays_from (rw c.least-to.ensures at q)) p)
+
+pub returns-then-sheet-from : goal.returns-then-sheet-from
+returns-then-sheet-from c =
+    let l = c.loop-left in
+    c.loop-left.invariant.3 _ _ _ (past_stuck section c.loop-left.left (c.loop-left.left - 1) c.loop-left.from (omega arith) c.lay_led-value.ensures c.if-sheet-from.true)
+
+pub loop-left-preserved : goal.loop-left-preserved
+loop-left-preserved c =
+    let l = c.loop-left in
+    let h = (past_inside c.lay_led-value.ensures c.if-sheet-from.false).1 in
+    let k = lays_length h in (
+      omega arith,
+      omega (arith, h.end),
+      omega arith,
+      λ r R D q. c.loop-left.invariant.3 r R D
+          (lays_more section (encoded (escapes Attribute)) comma c.loop-left.left (c.loop-left.left - 1) c.loop-left.from (omega arith) c.lay_led-value.ensures
+          c.if-sheet-from.false q),
+    )
+
+pub returns : goal.returns
+returns c =
+    let l = c.loop-left in
+    c.loop-left.invariant.3 _ _ _ (lays_last section (encoded (escapes Attribute)) c.loop-left.left c.loop-left.from (omega arith) c.loop-left.invariant.0 c.loop-left.lead comma
+    c.loop-left.invariant.1)
