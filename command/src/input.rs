@@ -1,7 +1,7 @@
 //! The bytes of a source, unpacked where it is compressed, in chunks. One thread reads and unpacks, another takes the chunks.
 
 use std::{
-    fs::Metadata,
+    fs::{File, Metadata},
     io::{self, BufReader, Cursor, Read, Write},
     sync::mpsc::{self, Receiver, Sender, SyncSender, TryRecvError},
     thread,
@@ -27,10 +27,9 @@ enum Message {
     Failed(io::Error),
 }
 
-/// A source that is being read.
+/// A source that is open, and is not read before it is poured: until then its bar can be hidden.
 pub struct Input {
-    messages: Receiver<Message>,
-    used: Sender<Vec<u8>>,
+    file: File,
     pub metadata: Metadata,
     /// Hidden where there is nothing to show, or no terminal to show it on.
     pub bar: ProgressBar,
@@ -56,9 +55,27 @@ impl Input {
             let _ = writeln!(io::stderr(), "gff3: reading standard input, up to Ctrl-D");
         }
         let bar = progress_bar(if metadata.is_file() { metadata.len() } else { 0 });
+        Ok(Input { file, metadata, bar })
+    }
+
+    /// Hands all chunks to a sink, and answers whether what marks the end of a bgzip file is missing.
+    pub fn pour(self, sink: &mut impl Sink) -> Result<bool> {
+        let poured = Chunks::of(self.bar.wrap_read(self.file)).and_then(|chunks| chunks.pour(sink));
+        self.bar.finish_and_clear();
+        poured
+    }
+}
+
+/// A text that is being read.
+struct Chunks {
+    messages: Receiver<Message>,
+    used: Sender<Vec<u8>>,
+}
+
+impl Chunks {
+    fn of(raw: impl Read + Send + 'static) -> Result<Self> {
         let (to_taker, messages) = mpsc::sync_channel(CHUNKS);
         let (used, from_taker) = mpsc::channel();
-        let raw = bar.wrap_read(file);
         thread::Builder::new()
             .spawn(move || {
                 let last = match read(raw, &to_taker, &from_taker) {
@@ -69,22 +86,10 @@ impl Input {
                 let _ = to_taker.send(last);
             })
             .context("no thread can be started")?;
-        Ok(Input {
-            messages,
-            used,
-            metadata,
-            bar,
-        })
+        Ok(Chunks { messages, used })
     }
 
-    /// Hands all chunks to a sink, and answers whether what marks the end of a bgzip file is missing.
-    pub fn pour(self, sink: &mut impl Sink) -> Result<bool> {
-        let poured = self.pour_all(sink);
-        self.bar.finish_and_clear();
-        poured
-    }
-
-    fn pour_all(&self, sink: &mut impl Sink) -> Result<bool> {
+    fn pour(&self, sink: &mut impl Sink) -> Result<bool> {
         loop {
             match self.next(sink)? {
                 Message::Chunk { buffer, count } => {

@@ -142,7 +142,7 @@ def begun(folder, starter=(), **more):
     child = subprocess.Popen(words, cwd=folder, env=ENVIRONMENT, **streams, **more)
     child.stdin.write(b"#a\n")
     child.stdin.flush()
-    for _ in range(500):
+    for _ in range(6000):
         if set(os.listdir(folder)) - {"out"} or child.poll() is not None:
             break
         time.sleep(0.01)

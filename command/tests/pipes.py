@@ -64,8 +64,8 @@ def try_full(folder):
     hold("rewrite -o on a full disk: status, the old text, the files", (done.stdout, is_said), (b"2\nold\nout\n", True))
 
 
-def read_up_to(stream, ending, seconds=5):
-    """What comes from a pipe, up to some ending of it."""
+def read_up_to(stream, ending, seconds=60):
+    """What comes from a pipe, up to some ending of it. Where that does not come, the wait is long, so that no slow machine is at fault."""
     came = b""
     while not came.endswith(ending) and select.select([stream], [], [], seconds)[0]:
         piece = os.read(stream.fileno(), 1 << 16)
