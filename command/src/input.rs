@@ -60,7 +60,7 @@ impl Input {
 
     /// Hands all chunks to a sink, and answers whether what marks the end of a bgzip file is missing.
     pub fn pour(self, sink: &mut impl Sink) -> Result<bool> {
-        let poured = Chunks::of(self.bar.wrap_read(self.file)).and_then(|chunks| chunks.pour(sink));
+        let poured = Chunks::begin(self.bar.wrap_read(self.file)).and_then(|chunks| chunks.pour(sink));
         self.bar.finish_and_clear();
         poured
     }
@@ -73,7 +73,7 @@ struct Chunks {
 }
 
 impl Chunks {
-    fn of(raw: impl Read + Send + 'static) -> Result<Self> {
+    fn begin(raw: impl Read + Send + 'static) -> Result<Self> {
         let (to_taker, messages) = mpsc::sync_channel(CHUNKS);
         let (used, from_taker) = mpsc::channel();
         thread::Builder::new()

@@ -106,7 +106,7 @@ def try_bars(folder):
     hold("a bar while counting", (status, total in screen), (1, True))
     status, screen = on_terminal(["rewrite", "large", "-q", "-o", "out"], ["stdout", "stderr"], cwd=folder)
     hold("a bar while a file is written", (status, total in screen), (1, True))
-    # 50 times, since what reads the file draws the bar, beside what hides it
+    # 50 times: one thread draws the bar, and another hides it
     os.truncate(large, 1 << 26)
     ended = {on_terminal(["rewrite", "large", "-q"], ["stdout", "stderr"], cwd=folder) for _ in range(50)}
     hold("no bar where the text is written", ended, {(1, b"! 25\n")})
