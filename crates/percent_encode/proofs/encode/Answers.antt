@@ -16,7 +16,7 @@ use Rattle.percent_encode.proofs.encode.Goals.{After-count_escaped, Else-s-gt-MO
 
 -- a text that is not too long gives no reason to refuse
 no_reason : (c : Else-s-gt-MOST_TEXT) → 0 ≡ refusal_of (encode_reasons c.args.s.now)
-no_reason c = rw (le-ltb most_text (length c.args.s.now) c.if-s-gt-MOST_TEXT.false)
+no_reason c = rw (le-ltb most_text (length c.args.s.now) (omega (arith, c.if-s-gt-MOST_TEXT.false)))
 
 -- the length, as the code works it out
 measured : (c : After-count_escaped)
@@ -27,7 +27,8 @@ measured c =
     omega (arith, length_encoded (escapes a.set) a.s.now, c.count_escaped.ensures.0)
 
 pub returns-then-s-gt-MOST_TEXT : goal.returns-then-s-gt-MOST_TEXT
-returns-then-s-gt-MOST_TEXT c = wrote_refused (sym (rw (lt-ltb _ _ c.if-s-gt-MOST_TEXT.true))) (omega arith)
+returns-then-s-gt-MOST_TEXT c =
+    wrote_refused (sym (rw (lt-ltb most_text (length c.args.s.now) (omega (arith, c.if-s-gt-MOST_TEXT.true))))) (omega arith)
 
 -- three bytes for each fit, so the text does
 pub returns-then-s-out : goal.returns-then-s-out

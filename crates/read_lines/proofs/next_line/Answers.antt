@@ -1,5 +1,6 @@
 -- `next_line` answers `next_line`. Assumes nothing.
 use native.Mathlib.Omega.{arith}
+use lib.ListN.{length}
 use borrow.Author.Tests.{eq-eqb, ne_eqb, le-leb, lt-leb}
 use Rattle.read_lines.specs.Step.{next_line}
 use Rattle.read_lines.proofs.BlankLaws.{past_feed}
@@ -11,7 +12,13 @@ returns-then-text-at c = rw (← c.past_blank-at.ensures, le-leb _ _ c.if-text-a
 
 pub returns-then-feed-text : goal.returns-then-feed-text
 unfolding next_line
-returns-then-feed-text c = rw (← c.past_blank-at.ensures, lt-leb _ _ c.if-text-at.false, ← c.find-feed.ensures.first, eq-eqb _ _ c.if-feed-text.true)
+returns-then-feed-text c =
+    rw (
+      ← c.past_blank-at.ensures,
+      lt-leb _ _ c.if-text-at.false,
+      ← c.find-feed.ensures.first,
+      eq-eqb c.find-feed.result (length c.args.text.now) (omega (arith, c.if-feed-text.true)),
+    )
 
 pub chomp-end-requires : goal.chomp-end-requires
 chomp-end-requires c =
@@ -25,6 +32,6 @@ returns c =
       ← c.past_blank-at.ensures,
       lt-leb _ _ c.if-text-at.false,
       ← c.find-feed.ensures.first,
-      ne_eqb _ _ c.if-feed-text.false,
+      ne_eqb c.find-feed.result (length c.args.text.now) (λ same. c.if-feed-text.false (omega (arith, same))),
       c.chomp-end.ensures,
     )
