@@ -2,26 +2,27 @@
 -- result. Assumes nothing.
 use native.Mathlib.Omega.{arith}
 use mathlib.Core.Path.{◌≡◌, refl, sym, ap, ◌∙◌}
-use mathlib.Core.Logic.{◌≢◌, ◌⊎◌, inl, inr}
-use mathlib.Core.Bool.{Bool, true, false, cond}
-use mathlib.Core.List.{List, [], ◌∷◌, ◌++◌}
-use Prim.Native.Nat.{ℕ, zero, suc, ◌≤◌, ◌<◌}
-use lib.ListN.{length, drop}
+use Rattle.std.specs.Prelude.{Bool, true, false, cond, Option, Some, None, Result, Ok, Err, List, [], ◌∷◌, ◌++◌, ℕ, ◌≤◌, ◌<◌}
+use Rattle.std.specs.Prelude.{length, drop}
 use borrow.Author.Tests.{lt-ltb, le-ltb}
-use Rattle.base_lists.specs.Bytes.{Every, among}
-use Rattle.base_buffer.specs.declared.Written.{Written}
-use Rattle.base_buffer.specs.declared.Written.TheVariants.{Done, Refused, NoRoom}
-use Rattle.base_buffer.specs.Answer.{Reason, ◌when◌, refusal_of, unless, number, answer, contents, Wrote}
+use Rattle.base_lists.specs.Bytes.{Every}
+use Rattle.base_refusals.specs.declared.Refusal.{Refusal}
+use Rattle.base_refusals.specs.declared.Refusal.TheVariants as refusal
+use Rattle.base_refusals.specs.Refusal as refusals
+use Rattle.base_refusals.specs.Refusal.{and_then}
+use Rattle.base_buffer.specs.declared.WriteError.{WriteError}
+use Rattle.base_buffer.specs.declared.WriteError.TheVariants.{Refused, NoRoom}
+use Rattle.base_buffer.specs.Answer.{Reason, refusal_of, number_or, unless, number, answer, contents, Wrote}
 use Rattle.base_buffer.specs.Laid.{Lays}
 use Rattle.base_buffer.proofs.LaidLaws.{laid_start}
 
 -- ── one result ────────────────────────────────────────────────────────────────────────────────
 
 -- any two results, and any two contents of the buffer, that a writer's promise allows are equal
-pub wrote_one : {reasons : List Reason} {text d d₁ d₂ : List ℕ} {r₁ r₂ : Written} → Wrote reasons text d d₁ r₁
+pub wrote_one : {reasons : List Reason} {text d d₁ d₂ : List ℕ} {r₁ r₂ : Result ℕ WriteError} → Wrote reasons text d d₁ r₁
     → Wrote reasons text d d₂ r₂ → (r₁ ≡ r₂) × (d₁ ≡ d₂)
 wrote_one {reasons} {text} {d} p q =
-    let e = p.result ∙ sym q.result in (e, p.left ∙ ap (λ (r : Written). contents r text d) e ∙ sym q.left)
+    let e = p.result ∙ sym q.result in (e, p.left ∙ ap (λ (r : Result ℕ WriteError). contents r text d) e ∙ sym q.left)
 
 -- so for a text that is laid
 pub lays_one : {text d d₁ d₂ : List ℕ} {at r₁ r₂ : ℕ} → Lays text d at d₁ r₁ → Lays text d at d₂ r₂ → (r₁ ≡ r₂) × (d₁ ≡ d₂)
@@ -29,136 +30,161 @@ lays_one p q = (p.end ∙ sym q.end, p.left ∙ sym q.left)
 
 -- ── the order of the reasons ──────────────────────────────────────────────────────────────────
 
--- each reason has a number, so that 0 stands for none
-abbrev pub Numbered : List Reason → Type 0
-Numbered reasons = Every (λ x. 0 < x.number) reasons
-
 -- reasons and then others: the others count where none of the first holds
-pub refusal_append : (xs ys : List Reason) → Numbered xs → refusal_of (xs ++ ys) ≡ unless (λ n. n) (refusal_of xs) (refusal_of ys)
+pub unless_append : {A B : Type 0} (xs ys : List Reason) (a : A) (f : A → B)
+    → unless (refusal_of (xs ++ ys)) (f a) ≡ and_then (unless (refusal_of xs) a) (λ x. unless (refusal_of ys) (f x))
 unfolding unless
-refusal_append [] ys h = refl
-refusal_append (x ∷ xs) ys h = go x.holds x.number h.0 (refusal_append xs ys h.1)
+unless_append [] ys a f = refl
+unless_append (x ∷ xs) ys a f = go x.holds (unless_append xs ys a f)
   where
-    go : (t : Bool) (n : ℕ) → 0 < n → refusal_of (xs ++ ys) ≡ unless (λ n. n) (refusal_of xs) (refusal_of ys)
-        → cond t n (refusal_of (xs ++ ys)) ≡ unless (λ n. n) (cond t n (refusal_of xs)) (refusal_of ys)
-    go true zero p more = absurd (omega arith)
-    go true (suc n) p more = refl
-    go false n p more = more
+    go : (t : Bool) → unless (refusal_of (xs ++ ys)) (f a) ≡ and_then (unless (refusal_of xs) a) (λ x. unless (refusal_of ys) (f x))
+        → unless (cond t (Some x.reason) (refusal_of (xs ++ ys))) (f a)
+        ≡ and_then (unless (cond t (Some x.reason) (refusal_of xs)) a) (λ x. unless (refusal_of ys) (f x))
+    go true more = refl
+    go false more = more
 
--- the first reason that holds has one of their numbers
-pub first_among : (numbers : List ℕ) (xs : List Reason) → Every (λ x. among numbers x.number ≡ true) xs
-    → (refusal_of xs ≡ 0) ⊎ (among numbers (refusal_of xs) ≡ true)
-first_among numbers [] h = inl refl
-first_among numbers (x ∷ xs) h = go x.holds (first_among numbers xs h.1)
+-- so of their numbers
+pub number_append : (xs ys : List Reason) (n : ℕ)
+    → number_or (refusal_of (xs ++ ys)) n ≡ number_or (refusal_of xs) (number_or (refusal_of ys) n)
+number_append [] ys n = refl
+number_append (x ∷ xs) ys n = go x.holds (number_append xs ys n)
   where
-    go : (t : Bool) → (refusal_of xs ≡ 0) ⊎ (among numbers (refusal_of xs) ≡ true)
-        → (cond t x.number (refusal_of xs) ≡ 0) ⊎ (among numbers (cond t x.number (refusal_of xs)) ≡ true)
-    go true rest = inr h.0
-    go false rest = rest
+    go : (t : Bool) → number_or (refusal_of (xs ++ ys)) n ≡ number_or (refusal_of xs) (number_or (refusal_of ys) n)
+        → number_or (cond t (Some x.reason) (refusal_of (xs ++ ys))) n
+        ≡ number_or (cond t (Some x.reason) (refusal_of xs)) (number_or (refusal_of ys) n)
+    go true more = refl
+    go false more = more
+
+-- what holds of each reason holds of the first that holds
+pub first_among : (P : Refusal → Type 0) (xs : List Reason) {r : Refusal} → Every (λ x. P x.reason) xs → refusal_of xs ≡ Some r → P r
+first_among P [] h e = absurd cc
+first_among P (x ∷ xs) {r} h e = go x.holds (first_among P xs h.1) e
+  where
+    go : (t : Bool) → (refusal_of xs ≡ Some r → P r) → cond t (Some x.reason) (refusal_of xs) ≡ Some r → P r
+    go true more k = let same : x.reason ≡ r = cc in rw (← same) h.0
+    go false more k = more k
 
 -- 22 comes last: an answer's number is that of the first reason, the lack of room behind all others
-pub number_answer : (reasons : List Reason) (long : Bool) (need : ℕ) → Numbered reasons
-    → number (answer (refusal_of reasons) long need) ≡ refusal_of (reasons ++ ((22 when long) ∷ []))
-unfolding number answer unless
-number_answer reasons long need h = go (refusal_of reasons) long ∙ sym (refusal_append reasons ((22 when long) ∷ []) h)
-  where
-    go : (n : ℕ) (long : Bool) → number (answer n long need) ≡ unless (λ n. n) n (cond long 22 0)
-    go (suc n) long = refl
-    go zero true = refl
-    go zero false = refl
+pub number_answer : (o : Option Refusal) (long : Bool) (need : ℕ) → number (answer o long need) ≡ number_or o (cond long 22 0)
+unfolding answer
+number_answer (Some r) long need = refl
+number_answer None true need = refl
+number_answer None false need = refl
+
+-- each reason has a number, so that 0 stands for none
+pub number_some : (r : Refusal) → 0 < refusals.number r
+number_some refusal.Columns = omega arith
+number_some refusal.Position = omega arith
+number_some refusal.Strand = omega arith
+number_some refusal.Phase = omega arith
+number_some refusal.Attribute = omega arith
+number_some refusal.Empty = omega arith
+number_some refusal.Major = omega arith
+number_some refusal.Minor = omega arith
+number_some refusal.Patch = omega arith
+number_some refusal.RegionNameMissing = omega arith
+number_some refusal.RegionStartMissing = omega arith
+number_some refusal.RegionStart = omega arith
+number_some refusal.RegionEndMissing = omega arith
+number_some refusal.RegionEnd = omega arith
+number_some refusal.BuildSourceMissing = omega arith
+number_some refusal.BuildNameMissing = omega arith
+number_some refusal.Score = omega arith
+number_some refusal.PhaseMissing = omega arith
+number_some refusal.Key = omega arith
+number_some refusal.Text = omega arith
+number_some refusal.ValueKey = omega arith
+number_some refusal.Sheet = omega arith
+number_some refusal.TooLong = omega arith
+number_some refusal.LineTooLong = omega arith
+number_some refusal.Sum = omega arith
+number_some refusal.Hold = omega arith
+
+pub number_none : (o : Option Refusal) → number_or o 0 ≡ 0 → o ≡ None
+number_none None e = refl
+number_none (Some r) e = absurd (omega (arith, number_some r))
 
 -- no reason holds: the first does not, and none of the others
-pub none_holds : (t : Bool) (n m : ℕ) → cond t (suc n) m ≡ 0 → (t ≡ false) × (m ≡ 0)
-none_holds true n m e = absurd (omega arith)
-none_holds false n m e = (refl, e)
+pub none_holds : (t : Bool) (r : Refusal) (o : Option Refusal) → cond t (Some r) o ≡ None → (t ≡ false) × (o ≡ None)
+none_holds true r o e = absurd cc
+none_holds false r o e = (refl, e)
 
 -- so for a whole list
-pub none_of : (reasons : List Reason) → Numbered reasons → refusal_of reasons ≡ 0 → Every (λ x. x.holds ≡ false) reasons
-none_of [] h e = tt
-none_of (x ∷ more) h e = go x.holds x.number h.0 e (none_of more h.1)
+pub none_of : (reasons : List Reason) → refusal_of reasons ≡ None → Every (λ x. x.holds ≡ false) reasons
+none_of [] e = tt
+none_of (x ∷ more) e = let first = none_holds x.holds x.reason (refusal_of more) e in (first.0, none_of more first.1)
+
+-- ── refused, or not ───────────────────────────────────────────────────────────────────────────
+
+-- what an answer by the first reason says of it: where the answer is no refusal, and where it is one
+pub unless_is : {A : Type 0} {o : Option Refusal} {a b : A} {x : Result A Refusal} → x ≡ unless o a → x ≡ Ok b → (o ≡ None) × (a ≡ b)
+unfolding unless
+unless_is {o} {a} {b} e h = go o (sym e ∙ h)
   where
-    go : (t : Bool) (n : ℕ) → 0 < n → cond t n (refusal_of more) ≡ 0 → (refusal_of more ≡ 0 → Every (λ y. y.holds ≡ false) more)
-        → (t ≡ false) × Every (λ y. y.holds ≡ false) more
-    go true n p e rest = absurd (omega arith)
-    go false n p e rest = (refl, rest e)
+    go : (o : Option Refusal) → unless o a ≡ Ok b → (o ≡ None) × (a ≡ b)
+    go None e = (refl, cc)
+    go (Some r) e = absurd cc
 
--- ── refused by a number, or not ───────────────────────────────────────────────────────────────
+pub unless_not : {A : Type 0} {o : Option Refusal} (a : A) {r : Refusal} {x : Result A Refusal} → x ≡ unless o a → x ≡ Err r → o ≡ Some r
+unfolding unless
+unless_not {o} a {r} e h = go o (sym e ∙ h)
+  where
+    go : (o : Option Refusal) → unless o a ≡ Err r → o ≡ Some r
+    go None e = absurd cc
+    go (Some r) e = cc
 
-module _ {A : Type 0} (refused : ℕ → A) where
-  -- by two lists of reasons, one behind the other
-  pub unless_append : (xs ys : List Reason) (a : A) → Numbered xs
-      → unless refused (refusal_of (xs ++ ys)) a ≡ unless refused (refusal_of xs) (unless refused (refusal_of ys) a)
-  unfolding unless
-  unless_append xs ys a h = ap (λ (n : ℕ). unless refused n a) (refusal_append xs ys h) ∙ go (refusal_of xs)
-    where
-      go : (n : ℕ) → unless refused (unless (λ n. n) n (refusal_of ys)) a ≡ unless refused n (unless refused (refusal_of ys) a)
-      go zero = refl
-      go (suc n) = refl
+-- the number of an answer's refusal, and 0 where there is none
+abbrev pub refusal_number : {A : Type 0} → Result A Refusal → ℕ
+refusal_number (Ok x) = 0
+refusal_number (Err r) = refusals.number r
 
-  -- what is made of an answer is made of each of its two cases
-  pub unless_map : {B : Type 0} (f : A → B) (n : ℕ) (a : A) → f (unless refused n a) ≡ unless (λ k. f (refused k)) n (f a)
-  unfolding unless
-  unless_map f zero a = refl
-  unless_map f (suc n) a = refl
+pub number_unless : {A : Type 0} (o : Option Refusal) (a : A) → refusal_number (unless o a) ≡ number_or o 0
+unfolding unless
+number_unless None a = refl
+number_unless (Some r) a = refl
 
-  -- the refusal by a number other than 0
-  pub unless_refused : (n : ℕ) (a : A) → n ≢ 0 → refused n ≡ unless refused n a
-  unfolding unless
-  unless_refused zero a h = absurd (h refl)
-  unless_refused (suc n) a h = refl
-
-  -- what it says of the number that the answer is no refusal, and that it is one
-  pub unless_is : (n : ℕ) {a b : A} → unless refused n a ≡ b → ((k : ℕ) → refused k ≢ b) → (n ≡ 0) × (a ≡ b)
-  unfolding unless
-  unless_is zero e h = (refl, e)
-  unless_is (suc n) e h = absurd (h (suc n) e)
-
-  pub unless_not : (n : ℕ) {a b : A} → unless refused n a ≡ b → a ≢ b → (n ≢ 0) × (refused n ≡ b)
-  unfolding unless
-  unless_not zero e h = absurd (h e)
-  unless_not (suc n) e h = (λ z. omega arith, e)
-
-  -- where what is answered otherwise is no refusal, and no two refusals are alike, a refusal tells the number
-  pub unless_told : (n k : ℕ) {a : A} → unless refused n a ≡ refused k → a ≢ refused k → ((i j : ℕ) → refused i ≡ refused j → i ≡ j)
-      → (k ≡ n) × (k ≢ 0)
-  unless_told n k e other alike =
-      let t = unless_not n e other in
-      let same = sym (alike n k t.1) in (same, λ x. t.0 (sym same ∙ x))
+-- what is made of an answer is made of what is answered where no reason holds, if a refusal stays itself
+pub unless_map : {A B : Type 0} (f : Result A Refusal → Result B Refusal) → ((r : Refusal) → f (Err r) ≡ Err r) → (o : Option Refusal) (a : A)
+    {b : B} → f (Ok a) ≡ Ok b → f (unless o a) ≡ unless o b
+unfolding unless
+unless_map f same None a e = e
+unless_map f same (Some r) a e = same r
 
 -- ── how a writer ends ─────────────────────────────────────────────────────────────────────────
 
-module _ {reasons : List Reason} {text d : List ℕ} {n : ℕ} (e : n ≡ refusal_of reasons) where
-  pub wrote_refused : n ≢ 0 → Wrote reasons text d d (Refused n)
+module _ {reasons : List Reason} {text d : List ℕ} where
+  pub wrote_refused : {r : Refusal} → refusal_of reasons ≡ Some r → Wrote reasons text d d (Err (Refused r))
   unfolding answer contents
-  wrote_refused h = record { result = rw (← e) (unless_refused Refused n _ h); left = refl }
+  wrote_refused e = record { result = rw e refl; left = refl }
 
-  pub wrote_no_room : {need : ℕ} → n ≡ 0 → need ≡ length text → length d < need → Wrote reasons text d d (NoRoom need)
-  unfolding answer contents unless
-  wrote_no_room none m h = record { result = rw (← e, none, ← m, lt-ltb _ _ h); left = refl }
+  pub wrote_no_room : {need : ℕ} → refusal_of reasons ≡ None → need ≡ length text → length d < need
+      → Wrote reasons text d d (Err (NoRoom need))
+  unfolding answer contents
+  wrote_no_room none m room = record { result = rw (none, ← m, lt-ltb _ _ room); left = refl }
 
-  pub wrote_done : {d' : List ℕ} {need r : ℕ} → n ≡ 0 → need ≡ length text → need ≤ length d → Lays text d 0 d' r
-      → Wrote reasons text d d' (Done need)
-  unfolding answer contents unless
+  pub wrote_done : {d' : List ℕ} {need r : ℕ} → refusal_of reasons ≡ None → need ≡ length text → need ≤ length d → Lays text d 0 d' r
+      → Wrote reasons text d d' (Ok need)
+  unfolding answer contents
   wrote_done none m room p =
-      let h : length text ≤ length d = omega arith in
-      record { result = rw (← e, none, le-ltb _ _ h, m); left = p.left ∙ laid_start text d h }
+      let fits : length text ≤ length d = omega arith in
+      record { result = rw (none, le-ltb _ _ fits, m); left = p.left ∙ laid_start text d fits }
 
 -- ── what its end says ─────────────────────────────────────────────────────────────────────────
 
-done_means : (n : ℕ) (long : Bool) (need k : ℕ) → Done k ≡ answer n long need → (n ≡ 0) × (k ≡ need)
-unfolding answer unless
-done_means zero false need k e = (refl, cc)
-done_means zero true need k e = absurd (let z : ◌≡◌ {A = ℕ} 0 1 = cc in omega arith)
-done_means (suc n) long need k e = absurd (let z : ◌≡◌ {A = ℕ} 0 1 = cc in omega arith)
+done_means : (o : Option Refusal) (long : Bool) (need k : ℕ) → Ok k ≡ answer o long need → (o ≡ None) × (k ≡ need)
+unfolding answer
+done_means None false need k e = (refl, cc)
+done_means None true need k e = absurd cc
+done_means (Some r) long need k e = absurd cc
 
 module _ {reasons : List Reason} {text d d' : List ℕ} where
   -- where it is done, no reason holds, and the buffer starts with the text
-  pub wrote_means : {n : ℕ} → Wrote reasons text d d' (Done n) → (refusal_of reasons ≡ 0) × (n ≡ length text) × (d' ≡ text ++ drop n d)
+  pub wrote_means : {n : ℕ} → Wrote reasons text d d' (Ok n) → (refusal_of reasons ≡ None) × (n ≡ length text) × (d' ≡ text ++ drop n d)
   unfolding contents
   wrote_means {n} w = let e = done_means _ _ _ n w.result in (e.0, e.1, rw e.1 w.left)
 
   -- where no reason holds and there is room, it is done
-  pub wrote_given_room : {r : Written} → refusal_of reasons ≡ 0 → length text ≤ length d → Wrote reasons text d d' r
-      → r ≡ Done (length text)
-  unfolding answer unless
+  pub wrote_given_room : {r : Result ℕ WriteError} → refusal_of reasons ≡ None → length text ≤ length d → Wrote reasons text d d' r
+      → r ≡ Ok (length text)
+  unfolding answer
   wrote_given_room none room w = w.result ∙ rw (none, le-ltb _ _ room)

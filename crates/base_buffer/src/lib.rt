@@ -6,8 +6,12 @@
 // there is room. Proved: the contents of the whole buffer, also behind the text. Assumes nothing.
 #![tactic(auto)]
 
-ghost use Rattle.std.specs.Prelude.{[], ◌∷◌};
+ghost use Rattle.std.specs.Prelude.{◌≡◌, [], ◌∷◌};
+ghost use Rattle.base_buffer.specs.declared.WriteError.TheVariants.{Refused};
+ghost use Rattle.base_buffer.specs.Answer.{error_number};
 ghost use Rattle.base_buffer.specs.Laid.{Lays};
+
+use base_refusals::Refusal;
 
 // The longest text that is encoded or written, and the longest sheet. A longer one is refused by 24.
 pub const MOST_TEXT: usize = 1048576;
@@ -15,15 +19,33 @@ pub const MOST_TEXT: usize = 1048576;
 // The longest line that is unfolded. A longer one is refused by 24.
 pub const MOST_LINE: usize = 4194304;
 
-// What a writer answers.
-#[derive(Clone, Copy)]
-pub enum Written {
-    // The text stands at the buffer's start, and has so many bytes.
-    Done(usize),
-    // The number of the reason (RULES 10).
-    Refused(u32),
+// Why a writer wrote nothing. A writer answers `Ok` with the length of the text that stands at the buffer's start.
+#[derive(Clone, Copy, Debug, PartialEq, Eq)]
+pub enum WriteError {
+    // The first reason that holds (RULES 10).
+    Refused(Refusal),
     // Refusal 22: the text is longer than the buffer, and has so many bytes.
     NoRoom(usize),
+}
+
+impl WriteError {
+    // The number of the reason (RULES 10).
+    pub fn number(self) -> u32
+        ensures { result ≡ error_number self }
+    {
+        match self {
+            WriteError::Refused(reason) => reason.number(),
+            WriteError::NoRoom(_) => 22,
+        }
+    }
+}
+
+impl From<Refusal> for WriteError {
+    ghost from_gives = { λ refusal error. error ≡ Refused refusal };
+
+    fn from(refusal: Refusal) -> WriteError {
+        WriteError::Refused(refusal)
+    }
 }
 
 // Lays one byte.
@@ -46,10 +68,6 @@ pub fn lay(s: &[u8], out: &mut [u8], at: usize) -> usize
         return end;
     }
     let n = base_numbers::least(s.len(), end - at);
-    let mut i = 0;
-    while i < n {
-        out[at + i] = s[i];
-        i += 1;
-    }
+    out[at..at + n].copy_from_slice(&s[..n]);
     at + n
 }

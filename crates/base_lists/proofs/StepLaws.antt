@@ -1,8 +1,5 @@
 -- Steps in a row hand out what is left from a cursor on. Assumes nothing.
-use Prim.Native.Nat.{ℕ, zero, suc}
-use mathlib.Core.Path.{◌≡◌, refl}
-use mathlib.Core.List.{List}
-use mathlib.Core.Option.{Option, none, some}
+use Rattle.std.specs.Prelude.{ℕ, zero, suc, List, Option, Some, None, ◌≡◌, refl}
 use lib.ListN.{take}
 use Rattle.base_lists.specs.Steps.{and_on, steps}
 
@@ -17,5 +14,5 @@ module _ {C N T : Type 0} (step : C → N) (comes : N → Option (T × C)) (left
     where
       go : (r : Option (T × C)) → ((c : C) → steps step comes n c ≡ take n (left c))
           → and_on r (steps step comes n) ≡ take (suc n) (and_on r left)
-      go none more = refl
-      go (some (x, next)) more = rw (more next)
+      go None more = refl
+      go (Some (x, next)) more = rw (more next)

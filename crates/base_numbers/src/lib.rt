@@ -1,21 +1,13 @@
-// Gives the smaller of two numbers, and one of two numbers by a test.
+// Gives the smaller of two numbers.
 //
-// Proved: each answer, for all numbers. Assumes nothing.
+// Proved: the answer, for all numbers. Assumes nothing.
 #![tactic(auto)]
 
-ghost use Rattle.std.specs.Prelude.{◌≡◌, min, cond};
+ghost use Rattle.std.specs.Prelude.{◌≡◌, min};
 
 // The smaller of two.
 pub fn least(a: usize, b: usize) -> usize
     ensures { result ≡ min a b }
 {
-    if a <= b { a } else { b }
-}
-
-// The number where the test holds, and else the other: a list of reasons is asked from its last to its first, so that an earlier one
-// goes before those that were asked before it.
-pub fn either(test: bool, number: u32, other: u32) -> u32
-    ensures { result ≡ cond test number other }
-{
-    if test { number } else { other }
+    a.min(b)
 }

@@ -1,14 +1,20 @@
 -- Laws of `index` and `seek`, over any test. Assumes nothing.
-use Prim.Native.Nat.{ℕ, zero, suc, ◌+◌, ◌≤◌, ◌<◌}
+use Prim.Native.Nat.{ℕ, zero, suc, ◌+◌, ◌-◌, ◌≤◌, ◌<◌}
 use native.Mathlib.Omega.{arith}
-use native.Mathlib.Numerals.{add-one}
-use mathlib.Core.Path.{◌≡◌, refl, ap}
+use native.Mathlib.Numerals.{add-one, one-add}
+use mathlib.Core.Path.{◌≡◌, refl, sym, ap}
+use mathlib.Core.Logic.{⊎_elim}
 use mathlib.Core.Bool.{Bool, true, false, cond}
 use mathlib.Core.List.{List, [], ◌∷◌, ◌++◌}
-use lib.ListN.{length, take, drop, get_or}
-use lib.Seq.{take-length}
+use lib.ListN.{length, take, drop, get_or, length-drop}
+use lib.Seq.{take-length, take_all}
 use borrow.Author.Tests.{eqb-true, eqb-false}
+use Rattle.std.specs.Prelude.{Some, None, position}
+use Rattle.std.specs.List.{position_or_len}
+use Rattle.std.proofs.lemmas.List.Recursion.{is_position_or_len}
+use Rattle.std.proofs.lemmas.Bool.Decides.{nat_tests}
 use Rattle.base_lists.specs.Bytes.{Every, Lacks}
+use Rattle.base_lists.proofs.OrderLaws.{le_or_lt}
 use Rattle.base_scan.specs.Find.{index, seek, is}
 
 module _ (test : ℕ → Bool) where
@@ -20,6 +26,17 @@ module _ (test : ℕ → Bool) where
       go : (t : Bool) → index test s ≤ length s → cond t 0 (suc (index test s)) ≤ suc (length s)
       go true h = omega arith
       go false h = omega arith
+
+  -- it is what the library's `position` counts
+  index_is : (s : List ℕ) → index test s ≡ position_or_len test s
+  unfolding index
+  index_is s = is_position_or_len (index test) test refl (λ x xs. rw one-add refl) s
+
+  index_some : (s : List ℕ) (k : ℕ) → position test s ≡ Some k → (index test s ≡ k) × (k < length s)
+  index_some s k e = rw (index_is s) (grind (arith, nat_tests, e))
+
+  index_none : (s : List ℕ) → position test s ≡ None → index test s ≡ length s
+  index_none s e = rw (index_is s) (grind (arith, nat_tests, e, index_le s, index_is s))
 
   -- ── from a cursor ──────────────────────────────────────────────────────────────────────────
 
@@ -63,6 +80,19 @@ module _ (test : ℕ → Bool) where
 
   pub seek_next : (at : ℕ) (s : List ℕ) → at < length s → test (get_or s at 0) ≡ false → seek test at s ≡ seek test (at + 1) s
   seek_next at s h e = rw add-one (seek_suc at s h e)
+
+  -- what stands from the cursor on, searched by the library
+  pub seek_some : (at : ℕ) (s : List ℕ) (k : ℕ) → position test (take (length s - at) (drop at s)) ≡ Some k → at + k ≡ seek test at s
+  seek_some at s k e =
+      let all = take_all (length s - at) (drop at s) (simp length-drop (omega arith)) in
+      let found = index_some (drop at s) k (rw all at e) in
+      omega (arith, found.0, found.1, length-drop at s, seek_at at s (omega (arith, found.1, length-drop at s)))
+
+  pub seek_none : (at : ℕ) (s : List ℕ) → position test (take (length s - at) (drop at s)) ≡ None → length s ≡ seek test at s
+  seek_none at s e =
+      let all = take_all (length s - at) (drop at s) (simp length-drop (omega arith)) in
+      let none = index_none (drop at s) (rw all at e) in
+      ⊎_elim (λ h. omega (arith, none, length-drop at s, seek_at at s h)) (λ h. sym (seek_end at s (omega arith))) (le_or_lt at (length s))
 
   -- ── what stands before the place, and at it ────────────────────────────────────────────────
 

@@ -4,6 +4,7 @@ use native.Mathlib.Omega.{arith}
 use native.Mathlib.Numerals.{add-one}
 use native.Mathlib.Nat.{mul-suc}
 use mathlib.Core.Path.{◌≡◌, refl, ap, ◌∙◌}
+use mathlib.Core.Logic.{◌≢◌}
 use mathlib.Core.Logic.{◌⊎◌, inl, inr}
 use mathlib.Core.Bool.{Bool, true, false, cond}
 use mathlib.Core.List.{List, [], ◌∷◌, ◌++◌}
@@ -11,12 +12,14 @@ use lib.Count.{count_leading_zeros, leading_length}
 use lib.Dec.{ltb}
 use lib.Pow.{pow_mono}
 use lib.ListN.{length, take, drop, get_or}
-use borrow.Author.Tests.{lt-ltb, le-ltb, ltb-true, ltb-false, eqb-true, eq-eqb}
+use lib.Seq.{length-take-le}
+use Rattle.std.proofs.lemmas.List.{get_or-take}
+use borrow.Author.Tests.{lt-ltb, le-ltb, ltb-true, ltb-false, eqb-true, eq-eqb, ne_eqb}
 use Rattle.base_lists.specs.Bytes.{Lacks}
 use Rattle.base_lists.proofs.OrderLaws.{le_or_lt}
 use Rattle.base_scan.specs.Find.{index, seek, is, found, found_last}
 use Rattle.base_scan.specs.Mask.{mask}
-use Rattle.base_scan.proofs.FindLaws.{index_le, lacks_all}
+use Rattle.base_scan.proofs.FindLaws.{index_le, lacks_all, seek_next}
 use Rattle.base_scan.proofs.MaskLaws.{mask_join, passed}
 
 module _ (c : ℕ) where
@@ -63,6 +66,38 @@ module _ (c : ℕ) where
           → suc (length s) ≡ cond (ltb (index (is c) s) (length s)) (suc (found_last c s)) (cond t zero (suc (length s)))
       go true e = absurd (omega arith)
       go false e = let k : length s ≤ index (is c) s = omega arith in rw (le-ltb _ _ k)
+
+  -- none stands on the n bytes from i on, and none behind them
+  none_between : (s : List ℕ) (n i : ℕ) → ((k : ℕ) → i ≤ k → k < i + n → get_or s k 0 ≢ c) → i + n ≤ length s
+      → found c (i + n) s ≡ length s → found c i s ≡ length s
+  none_between s zero i off h e = let k : i + 0 ≡ i = omega arith in rw k at e
+  none_between s (suc n) i off h e =
+      let k : i + suc n ≡ i + 1 + n = omega arith in
+      seek_next (is c) i s (omega arith) (ne_eqb _ _ (off i (omega arith) (omega arith)))
+      ∙ none_between s n (i + 1) (λ j a b. off j (omega arith) (omega arith)) (omega arith) (rw k at e)
+
+  -- none stands from `end` on: what is before it, searched by the library
+  module _ (s : List ℕ) (end : ℕ) (inside : end ≤ length s) (behind : found c end s ≡ length s) where
+    long : length (take end s) ≡ end
+    long = length-take-le end s inside
+
+    off : (k : ℕ) → k < end → get_or (take end s) k 0 ≢ c → get_or s k 0 ≢ c
+    off k h d = rw (get_or-take end s k 0 h) at d
+
+    pub last_some : (i : ℕ) → i < length (take end s) → get_or (take end s) i 0 ≡ c
+        → ((k : ℕ) → i < k → k < length (take end s) → get_or (take end s) k 0 ≢ c) → i ≡ found_last c s
+    last_some i h e after =
+        let n = end - (i + 1) in
+        let k : i + 1 + n ≡ end = omega (arith, long) in
+        last_here s i (omega (arith, long)) (rw (get_or-take end s i 0 (omega (arith, long))) at e)
+        (none_between s n (i + 1) (λ j a b. off j (omega arith) (after j (omega arith) (omega (arith, long)))) (omega (arith, long))
+        (rw k behind))
+
+    pub last_missed : ((k : ℕ) → k < length (take end s) → get_or (take end s) k 0 ≢ c) → length s ≡ found_last c s
+    unfolding seek
+    last_missed none =
+        let k : 0 + end ≡ end = omega arith in
+        last_none s (none_between s end 0 (λ j a b. off j (omega arith) (none j (omega (arith, long)))) (omega arith) (rw k behind))
 
   -- ── what it says of the text ───────────────────────────────────────────────────────────────
 

@@ -6,12 +6,17 @@ use mathlib.Core.List.{List, [], ◌∷◌, ◌++◌, append-nil}
 use Prim.Native.Nat.{ℕ, zero, suc, ◌+◌, ◌-◌, ◌*◌, ◌/◌, ◌%◌, ◌^◌, ◌≤◌, ◌<◌}
 use native.Mathlib.Omega.{arith}
 use native.Mathlib.Nat.{lt_of_lt_of_le, pow-suc, pow-succ', zero-div, mul_assoc, mul_left_comm, div-div-eq-div-mul}
-use native.Mathlib.Numerals.{add-one}
 use lib.Dec.{eqb}
 use lib.ListN.{length, take, drop, get_or, take-append-drop, length-drop}
 use lib.Seq.{drop-cons, drop-drop, take-add, length-take-le, take_all}
 use lib.Count.{count_trailing_zeros, under}
 use lib.Pow.{pow_mono}
+use lib.Lanes.{mask_l, top, zip2}
+use mathlib.Core.List.{map}
+use mir.Syntax.{w8}
+use mir.Val.{bits, hbits}
+use Rattle.std.specs.Prelude.{replicate}
+use Rattle.std.proofs.lemmas.Simd.{bitmask_splat}
 use Rattle.base_lists.specs.Bit.{bit}
 use Rattle.base_scan.specs.Find.{index, is, found}
 use Rattle.base_scan.specs.Mask.{mask}
@@ -46,16 +51,29 @@ pub mask_join : (b m n at : ℕ) (s : List ℕ) → at + m ≤ length s
     → mask b (take (m + n) (drop at s)) ≡ mask b (take m (drop at s)) + 2 ^ m * mask b (take n (drop (at + m) s))
 mask_join b m n at s h = mask_more b m n (drop at s) (simp length-drop (omega arith)) ∙ rw (drop-drop m at s)
 
-pub mask_two : (b at : ℕ) (s : List ℕ) → at + 2 ≤ length s
-    → mask b (take 2 (drop at s)) ≡ bit (eqb (get_or s at 0) b) + 2 * bit (eqb (get_or s (at + 1) 0) b)
+-- one byte more
+mask_one : (b i : ℕ) (s : List ℕ) → i < length s → mask b (take 1 (drop i s)) ≡ bit (eqb (get_or s i 0) b)
 unfolding mask
-mask_two b at s h = rw (drop-cons s at 0 (omega arith), drop-cons s (suc at) 0 (omega arith), add-one) (omega arith)
+mask_one b i s h = rw (drop-cons s i 0 h) (omega arith)
 
--- the byte at a cursor, and those behind it
-pub mask_step : (b at : ℕ) (s : List ℕ) → at < length s
-    → mask b (drop at s) ≡ bit (eqb (get_or s at 0) b) + 2 * mask b (drop (at + 1) s)
-unfolding mask
-mask_step b at s h = rw (drop-cons s at 0 h, add-one)
+pub mask_push : (b i : ℕ) (s : List ℕ) → i < length s
+    → mask b (take i s) + 2 ^ i * bit (eqb (get_or s i 0) b) ≡ mask b (take (i + 1) s)
+mask_push b i s h = rw (← mask_one b i s h) (sym (mask_more b i 1 s (omega arith)))
+
+-- it is what the library makes of a vector that is compared with b
+mask_bits : (b : ℕ) (xs : List ℕ) → mask_l (map (λ (x : ℕ). eqb x b) xs) ≡ mask b xs
+unfolding mask bit
+mask_bits b [] = refl
+mask_bits b (x ∷ xs) = go (eqb x b) (mask_bits b xs)
+  where
+    go : (t : Bool) → mask_l (map (λ (y : ℕ). eqb y b) xs) ≡ mask b xs
+        → cond t 1 0 + 2 * mask_l (map (λ (y : ℕ). eqb y b) xs) ≡ bit t + 2 * mask b xs
+    go true e = omega arith
+    go false e = omega arith
+
+pub mask_lanes : (b n : ℕ) (xs : List ℕ) → length xs ≡ n → n ≤ 64
+    → mask_l (map (top (hbits w8)) (zip2 (λ x y. cond (eqb x y) (2 ^ bits w8 - 1) 0) xs (replicate n b))) % 2 ^ 64 ≡ mask b xs
+mask_lanes b n xs h few = bitmask_splat w8 eqb xs n b h few ∙ mask_bits b xs
 
 -- a window has no digit beyond its bytes
 mask_lt : (b : ℕ) (xs : List ℕ) → mask b xs < 2 ^ length xs

@@ -10,8 +10,8 @@
 mod mask;
 mod place;
 
-ghost use Rattle.std.specs.Prelude.{◌≡◌, ◌≤◌, length};
-ghost use Rattle.base_scan.specs.Find.{found, found_two, found_on, found_last};
+ghost use Rattle.std.specs.Prelude.{◌≡◌, ◌≢◌, ℕ, ◌≤◌, ◌<◌, length, position, slice_index, IfNone, IfSome};
+ghost use Rattle.base_scan.specs.Find.{is, found, found_two, found_on, found_last};
 
 pub use mask::marks;
 pub use place::{Place, part, text};
@@ -23,21 +23,26 @@ pub struct Two {
     pub second: usize,
 }
 
-// Byte by byte: for a text too short for a window.
-fn find_few(s: &[u8], at: usize, b: u8) -> usize
-    ensures { result ≡ found b at s.now }
+// Where the text has b first, byte by byte.
+fn first_of(s: &[u8], b: u8) -> Option<usize>
+    ensures { result ≡ position (is b) s.now }
 {
-    let mut i = at;
-    while i < s.len() {
-        if s[i] == b {
-            return i;
-        }
-        i += 1;
-    }
-    s.len()
+    s.iter().position(|&x| x == b)
 }
 
-// By windows of 16 bytes; the last one overlaps the one before it, and its lowest digits are shifted out.
+// Byte by byte: for a text too short for a window.
+fn find_few(s: &[u8], at: usize, b: u8) -> usize
+    requires { at ≤ length s.now }
+    ensures { result ≡ found b at s.now }
+{
+    match first_of(&s[at..], b) {
+        Some(k) => at + k,
+        None => s.len(),
+    }
+}
+
+// By windows of 16 bytes; the last one overlaps the one before it, and its lowest digits are shifted out, so these are no chunks of an
+// iterator.
 fn find_many(s: &[u8], at: usize, b: u8) -> usize
     requires { 16 ≤ length s.now }
     ensures { result ≡ found b at s.now }
@@ -80,7 +85,7 @@ pub fn find(given: &[u8], at: usize, b: u8) -> usize
     }
 }
 
-// The next b, sought in the window at the cursor first.
+// The next b, sought in the window at the cursor first. One function with the number of windows would not become part of `find_two` twice.
 fn near_first(s: &[u8], at: usize, b: u8) -> usize
     requires { at ≤ length s.now }
     ensures { result ≡ found b at s.now }
@@ -167,16 +172,22 @@ fn past_last(s: &[u8], b: u8) -> usize
     i
 }
 
+// Where the text has b last, byte by byte.
+fn last_of(s: &[u8], b: u8) -> Option<usize>
+    ensures none { IfNone result ((k : ℕ) → k < length s.now → slice_index s.now k ≢ b) }
+    ensures some { IfSome result (λ i. (i < length s.now) × (slice_index s.now i ≡ b)
+        × ((k : ℕ) → i < k → k < length s.now → slice_index s.now k ≢ b)) }
+{
+    s.iter().rposition(|&x| x == b)
+}
+
 // The last index where the text has b, or its length where there is none: `find_last(b"a=b=", b'=')` is 3.
 pub fn find_last(s: &[u8], b: u8) -> usize
     ensures { result ≡ found_last b s.now }
 {
-    let mut i = past_last(s, b);
-    while 0 < i {
-        i -= 1;
-        if s[i] == b {
-            return i;
-        }
+    let end = past_last(s, b);
+    match last_of(&s[..end], b) {
+        Some(i) => i,
+        None => s.len(),
     }
-    s.len()
 }

@@ -1,8 +1,10 @@
-// The places of a byte as a mask: in a window of 16, digit k says whether byte `at + k` is b. Two halves are joined each time, since
-// LLVM makes one pcmpeqb and one pmovmskb of this tree, and of no other shape. The windows of a text's first 64 bytes make one mask.
+// The places of a byte as a mask: in a window of 16, digit k says whether byte `at + k` is b. The vector's comparison and its digits are
+// one pcmpeqb and one pmovmskb each. The windows of a text's first 64 bytes make one mask.
 ghost use Rattle.std.specs.Prelude.{◌≡◌, ◌+◌, ◌*◌, ◌^◌, ◌≤◌, ◌<◌, length, take, drop, eqb};
 ghost use Rattle.base_lists.specs.Bit.{bit};
 ghost use Rattle.base_scan.specs.Mask.{mask};
+
+use std::simd::prelude::*;
 
 // 1 where x is b, else 0.
 fn same(x: u8, b: u8) -> u32
@@ -11,46 +13,13 @@ fn same(x: u8, b: u8) -> u32
     (x == b) as u32
 }
 
-fn mask2(s: &[u8], at: usize, b: u8) -> u32
-    requires { at + 2 ≤ length s.now }
-    ensures { (result ≡ mask b (take 2 (drop at s.now))) × (result < 4) }
-{
-    same(s[at], b) + 2 * same(s[at + 1], b)
-}
-
-fn mask4(s: &[u8], at: usize, b: u8) -> u32
-    requires { at + 4 ≤ length s.now }
-    ensures { (result ≡ mask b (take 4 (drop at s.now))) × (result < 16) }
-{
-    mask2(s, at, b) + 4 * mask2(s, at + 2, b)
-}
-
-fn mask8(s: &[u8], at: usize, b: u8) -> u32
-    requires { at + 8 ≤ length s.now }
-    ensures { (result ≡ mask b (take 8 (drop at s.now))) × (result < 256) }
-{
-    mask4(s, at, b) + 16 * mask4(s, at + 4, b)
-}
-
 pub(crate) fn mask16(s: &[u8], at: usize, b: u8) -> u32
     requires { at + 16 ≤ length s.now }
     ensures { (result ≡ mask b (take 16 (drop at s.now))) × (result < 65536) }
 {
-    mask8(s, at, b) + 256 * mask8(s, at + 8, b)
-}
-
-// Byte by byte, from the last one: for a text too short for a window.
-fn marks_few(s: &[u8], b: u8) -> u64
-    requires { length s.now ≤ 64 }
-    ensures { result ≡ mask b s.now }
-{
-    let mut m: u64 = 0;
-    let mut i = s.len();
-    while 0 < i {
-        i -= 1;
-        m = same(s[i], b) as u64 + 2 * m;
-    }
-    m
+    u8x16::from_slice(&s[at..])
+        .simd_eq(u8x16::splat(b))
+        .to_bitmask() as u32
 }
 
 // The digits of w, put above the i digits of m.
@@ -61,8 +30,19 @@ fn above(m: u64, i: usize, w: u32) -> u64
     m + ((w as u64) << (i as u32))
 }
 
-// By windows of 16 bytes, the last one as in `find_many`. A window that is all b is left to `marks_few`: that branch is hardly ever taken
-// and keeps LLVM from widening the window's digits, so that one pcmpeqb and one pmovmskb are made of them.
+// Byte by byte: for a text too short for a window.
+fn marks_few(s: &[u8], b: u8) -> u64
+    requires { length s.now < 16 }
+    ensures { result ≡ mask b s.now }
+{
+    let mut m: u64 = 0;
+    for i in 0..s.len() {
+        m = above(m, i, same(s[i], b));
+    }
+    m
+}
+
+// By windows of 16 bytes; the last one overlaps the one before it, as in `find_many`, so these are no chunks of an iterator.
 fn marks_many(s: &[u8], b: u8) -> u64
     requires { (16 ≤ length s.now) × (length s.now < 64) }
     ensures { result ≡ mask b s.now }
@@ -72,11 +52,7 @@ fn marks_many(s: &[u8], b: u8) -> u64
     let mut m: u64 = 0;
     let mut i: usize = 0;
     while i <= last {
-        let w = mask16(s, i, b);
-        if w == 65535 {
-            return marks_few(s, b);
-        }
-        m = above(m, i, w);
+        m = above(m, i, mask16(s, i, b));
         i += 16;
     }
     if i < n {
@@ -86,22 +62,12 @@ fn marks_many(s: &[u8], b: u8) -> u64
     m
 }
 
-// Of 64 bytes. The windows are as many each time, so LLVM makes no loop of them.
+// Of the first 64 bytes.
 fn marks_full(s: &[u8], b: u8) -> u64
-    requires { length s.now ≡ 64 }
-    ensures { result ≡ mask b s.now }
+    requires { 64 ≤ length s.now }
+    ensures { result ≡ mask b (take 64 s.now) }
 {
-    let mut m: u64 = 0;
-    let mut i: usize = 0;
-    while i < 64 {
-        let w = mask16(s, i, b);
-        if w == 65535 {
-            return marks_few(s, b);
-        }
-        m = above(m, i, w);
-        i += 16;
-    }
-    m
+    u8x64::from_slice(s).simd_eq(u8x64::splat(b)).to_bitmask()
 }
 
 // Digit k, from the lowest, says whether byte k is b; bytes from the 65th on have none: `marks(b"a=b=", b'=')` is 2 + 8.
@@ -115,6 +81,6 @@ pub fn marks(given: &[u8], b: u8) -> u64
     if n < 64 {
         marks_many(&given[..n], b)
     } else {
-        marks_full(&given[..64], b)
+        marks_full(given, b)
     }
 }

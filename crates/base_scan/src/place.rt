@@ -1,4 +1,4 @@
-// Where a text stands in a longer one: a part is handed out as a place, and read by `text`.
+// Where a text stands in a longer one: a part is handed out as a place, which C can be given, and read by `text`.
 ghost use Rattle.std.specs.Prelude.{◌≡◌};
 ghost use Rattle.base_scan.specs.Part.{part, text_at};
 

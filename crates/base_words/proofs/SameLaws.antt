@@ -4,10 +4,11 @@ use native.Mathlib.Omega.{arith}
 use native.Mathlib.Nat.{eq-or-lt_of_le}
 use mathlib.Core.Path.{◌≡◌, refl, sym, ap₂}
 use mathlib.Core.Logic.{⊎_elim}
-use mathlib.Core.Bool.{true, false, true≢false}
+use mathlib.Core.Bool.{and-true, and-false, true, false, true≢false}
 use mathlib.Core.List.{List, [], ◌∷◌}
 use lib.Dec.{eqb}
 use borrow.Author.Tests.{eq-eqb, ne_eqb, eqb-true}
+use lib.Pointwise.{pointwise}
 use lib.ListN.{length, drop, get_or, drop_of_length-le}
 use Rattle.base_lists.specs.Bytes.{dot}
 use Rattle.base_lists.proofs.BoolLaws.{and_left, and_right}
@@ -27,6 +28,14 @@ same_is [] (y ∷ t) e = absurd (true≢false (sym e))
 same_is (x ∷ s) [] e = absurd (true≢false (sym e))
 same_is (x ∷ s) (y ∷ t) e =
     ap₂ ◌∷◌ (eqb-true x y (and_left (eqb x y) (same s t) e)) (same_is s t (and_right (eqb x y) (same s t) e))
+
+-- it is what the library's `==` answers
+pub same_pairs : (s t : List ℕ) → pointwise eqb s t ≡ same s t
+unfolding same
+same_pairs [] [] = refl
+same_pairs [] (y ∷ t) = refl
+same_pairs (x ∷ s) [] = refl
+same_pairs (x ∷ s) (y ∷ t) = rw (same_pairs s t) refl
 
 -- one byte of the first text, and a cursor into the second
 module _ (x : ℕ) (d s t : List ℕ) (j : ℕ) (e : d ≡ x ∷ s) where
@@ -49,15 +58,9 @@ same_end t j h =
     (λ l. rw (cons_at t j (j + 1) l (omega arith), ne_eqb j (length t) (omega arith)))
     (eq-or-lt_of_le h)
 
--- `.` is judged by the one byte
-pub dot_one : (s : List ℕ) → length s ≡ 1 → eqb (get_or s 0 0) dot ≡ is_dot s
-unfolding is_dot
-dot_one [] h = absurd (omega arith)
-dot_one (x ∷ []) h = refl
-dot_one (x ∷ y ∷ s) h = absurd (omega arith)
-
-pub dot_other : (s : List ℕ) → (length s ≡ 1 → ⊥) → false ≡ is_dot s
-unfolding is_dot
-dot_other [] h = refl
-dot_other (x ∷ []) h = absurd (h refl)
-dot_other (x ∷ y ∷ s) h = refl
+-- `.` is the text of that byte alone
+pub same_dot : (s : List ℕ) → same s (dot ∷ []) ≡ is_dot s
+unfolding same is_dot
+same_dot [] = refl
+same_dot (x ∷ []) = and-true (eqb x dot)
+same_dot (x ∷ y ∷ s) = and-false (eqb x dot)

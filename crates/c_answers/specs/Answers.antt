@@ -1,10 +1,9 @@
 -- Cursors, bounds, positions and the answers of writers as C has them, a case at a time (RULES 16). Assumes nothing: these are definitions.
-use Rattle.std.specs.Prelude.{ℕ, min, ◌≡◌, List, length}
-use Rattle.base_buffer.specs.declared.Written.{Written}
+use Rattle.std.specs.Prelude.{ℕ, min, ◌≡◌, List, length, Result, Ok, Err}
+use Rattle.base_refusals.specs.declared.Refusal.{Refusal}
+use Rattle.base_refusals.specs.Refusal as refusal
+use Rattle.base_buffer.specs.declared.WriteError.{WriteError}
 use Rattle.base_buffer.specs.Answer.{Reason, number, needed, Wrote}
-use Rattle.read_tokens.specs.declared.position.PositionRead.{PositionRead}
-use Rattle.read_tokens.specs.declared.position.PositionRead.TheVariants as position
-use Rattle.read_tokens.specs.Tokens.{position_refusal}
 use Rattle.read_columns.specs.declared.bounds.Bounds.{Bounds}
 use Rattle.c_answers.specs.declared.Gff3Bounds.{Gff3Bounds}
 use Rattle.c_answers.specs.declared.Gff3Number.{Gff3Number}
@@ -54,12 +53,13 @@ no_bounds =
       phase_end = 0;
     }
 
-abbrev pub c_position : PositionRead → Gff3Number
-c_position (position.Is n) = record { refused = position_refusal (position.Is n); value = n }
-c_position (position.Refused n) = record { refused = position_refusal (position.Refused n); value = 0 }
+-- the refusal's number, or 0, and a position
+abbrev pub c_position : Result ℕ Refusal → Gff3Number
+c_position (Ok n) = record { refused = 0; value = n }
+c_position (Err r) = record { refused = refusal.number r; value = 0 }
 
 -- the refusal's number, or 0, and a length: 22 carries the length needed
-abbrev pub c_written : Written → Gff3Written
+abbrev pub c_written : Result ℕ WriteError → Gff3Written
 c_written w = record { refused = number w; length = needed w }
 
 -- the library's promise P, as C has it: r is some answer that P allows, in C's form

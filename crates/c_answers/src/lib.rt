@@ -8,9 +8,9 @@
 ghost use Rattle.std.specs.Prelude.{◌≡◌};
 ghost use Rattle.c_answers.specs.Answers.{bounds_of_c, c_bounds, no_bounds, c_position, c_written};
 
-use base_buffer::Written;
+use base_buffer::WriteError;
+use base_refusals::Refusal;
 use read_columns::Bounds;
-use read_tokens::PositionRead;
 
 #[repr(C)]
 #[derive(Clone, Copy)]
@@ -87,36 +87,33 @@ pub fn no_bounds() -> Gff3Bounds
     }
 }
 
-pub fn position_of(read: PositionRead) -> Gff3Number
+pub fn position_of(read: Result<u64, Refusal>) -> Gff3Number
     ensures { result ≡ c_position read }
 {
     match read {
-        PositionRead::Is(n) => Gff3Number {
+        Ok(n) => Gff3Number {
             refused: 0,
             value: n,
         },
-        PositionRead::Refused(n) => Gff3Number {
-            refused: n as u64,
+        Err(r) => Gff3Number {
+            refused: r.number() as u64,
             value: 0,
         },
     }
 }
 
-pub fn written_of(written: Written) -> Gff3Written
+pub fn written_of(written: Result<usize, WriteError>) -> Gff3Written
     ensures { result ≡ c_written written }
 {
     match written {
-        Written::Done(n) => Gff3Written {
-            refused: 0,
-            length: n,
-        },
-        Written::Refused(n) => Gff3Written {
-            refused: n as u64,
+        Ok(length) => Gff3Written { refused: 0, length },
+        Err(WriteError::Refused(refusal)) => Gff3Written {
+            refused: refusal.number() as u64,
             length: 0,
         },
-        Written::NoRoom(n) => Gff3Written {
+        Err(WriteError::NoRoom(length)) => Gff3Written {
             refused: 22,
-            length: n,
+            length,
         },
     }
 }

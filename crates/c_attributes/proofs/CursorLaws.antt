@@ -9,12 +9,13 @@ use mathlib.Core.List.{List}
 use lib.ListN.{length}
 use borrow.Author.Tests.{le-leb}
 use Rattle.base_lists.proofs.OrderLaws.{le_or_lt}
-use Rattle.read_attributes.specs.declared.field.Step.{Step}
-use Rattle.read_attributes.specs.declared.field.Step.TheVariants as step
+use Rattle.std.specs.Prelude.{Option, Some, None, Result, Ok, Err}
+use Rattle.base_refusals.specs.declared.Refusal.{Refusal}
+use Rattle.base_scan.specs.declared.place.Place.{Place}
+use Rattle.read_attributes.specs.declared.field.Field.{Field}
 use Rattle.read_attributes.specs.Step.{next_field}
 use Rattle.read_attributes.proofs.WalkLaws as walk
-use Rattle.read_values.specs.declared.NextValue.{NextValue}
-use Rattle.read_values.specs.declared.NextValue.TheVariants as value
+use Rattle.read_values.specs.declared.ValueCursor.{ValueCursor}
 use Rattle.read_values.specs.Step.{next_value}
 use Rattle.read_values.proofs.ValueLaws as values
 use Rattle.c_answers.specs.Answers.{clipped}
@@ -35,10 +36,10 @@ module _ (s : List ℕ) (at : ℕ) where
   pub field_next_inside : (c_next_field s at).next ≤ length s
   field_next_inside = go (next_field s at) (walk.field_meets s at)
     where
-      go : (r : Step) → walk.Meets s at r → (c_field here r).next ≤ length s
-      go step.Done m = omega arith
-      go step.Refused m = omega arith
-      go (step.Is field) m = omega arith
+      go : (r : Result (Option Field) Refusal) → walk.Meets s at r → (c_field here r).next ≤ length s
+      go (Ok None) m = omega arith
+      go (Err r) m = omega arith
+      go (Ok (Some field)) m = omega arith
 
   -- a cursor beyond the column counts as at its end
   clipped_same : next_field s here ≡ next_field s at
@@ -57,11 +58,11 @@ module _ (s : List ℕ) (at : ℕ) where
   pub field_ended_again : Ended (c_next_field s at) → c_next_field s (c_next_field s at).next ≡ c_next_field s at
   field_ended_again = go (next_field s at) refl
     where
-      go : (r : Step) → next_field s at ≡ r → Ended (c_field here r) → c_next_field s (c_field here r).next ≡ c_field here r
-      go step.Done e h = rw (clipped_once, clipped_same, e)
-      go step.Refused e h = rw (clipped_once, clipped_same, e)
-      go (step.Is field) e (inl h) = absurd (omega arith)
-      go (step.Is field) e (inr h) = absurd (omega arith)
+      go : (r : Result (Option Field) Refusal) → next_field s at ≡ r → Ended (c_field here r) → c_next_field s (c_field here r).next ≡ c_field here r
+      go (Ok None) e h = rw (clipped_once, clipped_same, e)
+      go (Err r) e h = rw (clipped_once, clipped_same, e)
+      go (Ok (Some field)) e (inl h) = absurd (omega arith)
+      go (Ok (Some field)) e (inr h) = absurd (omega arith)
 
   -- ── the values of an attribute ──────────────────────────────────────────────────────────────
 
@@ -70,15 +71,15 @@ module _ (s : List ℕ) (at : ℕ) where
     pub value_next_inside : (c_next_value s at out).next ≤ length s
     value_next_inside = go (next_value s (cursor_of_c at out)) (values.value_meets s (cursor_of_c at out))
       where
-        go : (r : NextValue) → values.Meets s (cursor_of_c at out) r → (c_value here r).next ≤ length s
-        go value.Done m = omega arith
-        go (value.Is place next) m = omega arith
+        go : (r : Option (Place × ValueCursor)) → values.Meets s (cursor_of_c at out) r → (c_value here r).next ≤ length s
+        go None m = omega arith
+        go (Some (place, next)) m = omega arith
 
     -- once done, done: the next call answers the same
     pub value_done_again : let r = c_next_value s at out in r.done ≡ 1 → c_next_value s r.next r.out ≡ r
     unfolding next_value
     value_done_again = go (next_value s (cursor_of_c at out))
       where
-        go : (r : NextValue) → let a = c_value here r in a.done ≡ 1 → c_next_value s a.next a.out ≡ a
-        go value.Done h = rw clipped_once
-        go (value.Is place next) h = absurd (omega arith)
+        go : (r : Option (Place × ValueCursor)) → let a = c_value here r in a.done ≡ 1 → c_next_value s a.next a.out ≡ a
+        go None h = rw clipped_once
+        go (Some (place, next)) h = absurd (omega arith)

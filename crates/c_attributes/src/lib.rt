@@ -10,8 +10,7 @@ ghost use Rattle.base_lists.specs.Bit.{bit};
 ghost use Rattle.read_attributes.specs.Attributes.{is_empty};
 ghost use Rattle.c_attributes.specs.Attribute.{c_next_field, c_next_value};
 
-use read_attributes::Step;
-use read_values::{NextValue, ValueCursor};
+use read_values::ValueCursor;
 
 #[repr(C)]
 #[derive(Clone, Copy)]
@@ -42,9 +41,8 @@ pub extern "C" fn gff3_next_field(column: &[u8], at: usize) -> Gff3Field
 {
     let here = base_numbers::least(at, column.len());
     match read_attributes::next_field(column, at) {
-        Step::Is(field) => {
-            let tag = field.tag;
-            let value = field.value;
+        Ok(Some(field)) => {
+            let (tag, value) = (field.tag, field.value);
             Gff3Field {
                 refused: 0,
                 done: 0,
@@ -55,7 +53,7 @@ pub extern "C" fn gff3_next_field(column: &[u8], at: usize) -> Gff3Field
                 next: field.next,
             }
         }
-        Step::Done => Gff3Field {
+        Ok(None) => Gff3Field {
             refused: 0,
             done: 1,
             tag_start: 0,
@@ -64,8 +62,8 @@ pub extern "C" fn gff3_next_field(column: &[u8], at: usize) -> Gff3Field
             value_end: 0,
             next: here,
         },
-        Step::Refused => Gff3Field {
-            refused: 5,
+        Err(refusal) => Gff3Field {
+            refused: refusal.number() as u64,
             done: 0,
             tag_start: 0,
             tag_end: 0,
@@ -83,14 +81,14 @@ pub extern "C" fn gff3_next_value(value: &[u8], at: usize, out: u64) -> Gff3Valu
     ensures { result ≡ c_next_value value.now at out }
 {
     match read_values::next_value(value, ValueCursor { at, out: out != 0 }) {
-        NextValue::Is(place, cursor) => Gff3Value {
+        Some((place, cursor)) => Gff3Value {
             done: 0,
             start: place.start,
             end: place.end,
             next: cursor.at,
             out: cursor.out as u64,
         },
-        NextValue::Done => Gff3Value {
+        None => Gff3Value {
             done: 1,
             start: 0,
             end: 0,

@@ -8,8 +8,10 @@ ghost use Rattle.std.specs.Prelude.{◌≡◌};
 ghost use Rattle.c_answers.specs.Answers.{bounds_of_c};
 ghost use Rattle.c_columns.specs.Columns.{column_of_c, c_column_at, c_place};
 
+use base_refusals::Refusal;
+use base_scan::Place;
 use c_answers::Gff3Bounds;
-use read_columns::{Bounds, Column, ColumnRead};
+use read_columns::{Bounds, Column};
 
 #[repr(C)]
 #[derive(Clone, Copy)]
@@ -19,38 +21,28 @@ pub struct Gff3Place {
     pub end: usize,
 }
 
-// The column that C asks for by a number.
-#[derive(Clone, Copy)]
-enum ColumnOf {
-    Is(Column),
-    NotOne,
-}
-
 // The column of a number, 1 to 9.
-fn column_of(column: u32) -> ColumnOf
+fn column_of(column: u32) -> Option<Column>
     ensures { result ≡ column_of_c column }
 {
     match column {
-        1 => ColumnOf::Is(Column::ReferenceSequenceName),
-        2 => ColumnOf::Is(Column::Source),
-        3 => ColumnOf::Is(Column::Ty),
-        4 => ColumnOf::Is(Column::Start),
-        5 => ColumnOf::Is(Column::End),
-        6 => ColumnOf::Is(Column::Score),
-        7 => ColumnOf::Is(Column::Strand),
-        8 => ColumnOf::Is(Column::Phase),
-        9 => ColumnOf::Is(Column::Attributes),
-        _ => ColumnOf::NotOne,
+        1 => Some(Column::ReferenceSequenceName),
+        2 => Some(Column::Source),
+        3 => Some(Column::Ty),
+        4 => Some(Column::Start),
+        5 => Some(Column::End),
+        6 => Some(Column::Score),
+        7 => Some(Column::Strand),
+        8 => Some(Column::Phase),
+        9 => Some(Column::Attributes),
+        _ => None,
     }
 }
 
-fn column_at(line: &[u8], bounds: Bounds, column: ColumnOf) -> ColumnRead
+fn column_at(line: &[u8], bounds: Bounds, column: Option<Column>) -> Result<Place, Refusal>
     ensures { result ≡ c_column_at column line.now bounds }
 {
-    match column {
-        ColumnOf::Is(named) => read_columns::column_at(line, bounds, named),
-        ColumnOf::NotOne => ColumnRead::Refused,
-    }
+    read_columns::column_at(line, bounds, column.ok_or(Refusal::Columns)?)
 }
 
 // A raw column as a place. Refusal 1: the bounds are not the line's own, or the number is not one of 1 to 9.
@@ -59,13 +51,13 @@ pub extern "C" fn gff3_column(line: &[u8], bounds: Gff3Bounds, column: u32) -> G
     ensures { result ≡ c_place (c_column_at (column_of_c column) line.now (bounds_of_c bounds)) }
 {
     match column_at(line, c_answers::bounds_in(bounds), column_of(column)) {
-        ColumnRead::At(place) => Gff3Place {
+        Ok(place) => Gff3Place {
             refused: 0,
             start: place.start,
             end: place.end,
         },
-        ColumnRead::Refused => Gff3Place {
-            refused: 1,
+        Err(r) => Gff3Place {
+            refused: r.number() as u64,
             start: 0,
             end: 0,
         },

@@ -10,9 +10,6 @@ ghost use Rattle.read_version.specs.GffVersion as version;
 ghost use Rattle.read_directives.specs.SequenceRegion as region;
 ghost use Rattle.c_directives.specs.Directive.{c_parts, c_version, c_region, c_build};
 
-use read_directives::{BuildRead, RegionRead};
-use read_version::{Part, VersionRead};
-
 #[repr(C)]
 #[derive(Clone, Copy)]
 pub struct Gff3VersionValue {
@@ -44,32 +41,30 @@ pub struct Gff3BuildValue {
 }
 
 // How many parts there are, and each; a part that is absent is 0.
-fn parts_of(major: u32, minor: Part, patch: Part) -> Gff3VersionValue
+fn parts_of(major: u32, minor: Option<u32>, patch: Option<u32>) -> Gff3VersionValue
     ensures { result ≡ c_parts 0 major minor patch }
 {
-    match minor {
-        Part::Absent => Gff3VersionValue {
+    match (minor, patch) {
+        (None, _) => Gff3VersionValue {
             refused: 0,
             parts: 1,
             major: major as u64,
             minor: 0,
             patch: 0,
         },
-        Part::Is(minor) => match patch {
-            Part::Absent => Gff3VersionValue {
-                refused: 0,
-                parts: 2,
-                major: major as u64,
-                minor: minor as u64,
-                patch: 0,
-            },
-            Part::Is(patch) => Gff3VersionValue {
-                refused: 0,
-                parts: 3,
-                major: major as u64,
-                minor: minor as u64,
-                patch: patch as u64,
-            },
+        (Some(minor), None) => Gff3VersionValue {
+            refused: 0,
+            parts: 2,
+            major: major as u64,
+            minor: minor as u64,
+            patch: 0,
+        },
+        (Some(minor), Some(patch)) => Gff3VersionValue {
+            refused: 0,
+            parts: 3,
+            major: major as u64,
+            minor: minor as u64,
+            patch: patch as u64,
         },
     }
 }
@@ -80,13 +75,9 @@ pub extern "C" fn gff3_version(text: &[u8]) -> Gff3VersionValue
     ensures { result ≡ c_version (version.version_of text.now) }
 {
     match read_version::parse_gff_version(text) {
-        VersionRead::Is(version) => {
-            let minor = version.minor;
-            let patch = version.patch;
-            parts_of(version.major, minor, patch)
-        }
-        VersionRead::Refused(n) => Gff3VersionValue {
-            refused: n as u64,
+        Ok(version) => parts_of(version.major, version.minor, version.patch),
+        Err(refusal) => Gff3VersionValue {
+            refused: refusal.number() as u64,
             parts: 0,
             major: 0,
             minor: 0,
@@ -101,18 +92,15 @@ pub extern "C" fn gff3_region(text: &[u8]) -> Gff3RegionValue
     ensures { result ≡ c_region (region.region_of text.now) }
 {
     match read_directives::parse_sequence_region(text) {
-        RegionRead::Is(region) => {
-            let name = region.name;
-            Gff3RegionValue {
-                refused: 0,
-                name_start: name.start,
-                name_end: name.end,
-                start: region.start,
-                end: region.end,
-            }
-        }
-        RegionRead::Refused(n) => Gff3RegionValue {
-            refused: n as u64,
+        Ok(region) => Gff3RegionValue {
+            refused: 0,
+            name_start: region.name.start,
+            name_end: region.name.end,
+            start: region.start,
+            end: region.end,
+        },
+        Err(refusal) => Gff3RegionValue {
+            refused: refusal.number() as u64,
             name_start: 0,
             name_end: 0,
             start: 0,
@@ -127,19 +115,15 @@ pub extern "C" fn gff3_build(text: &[u8]) -> Gff3BuildValue
     ensures { result ≡ c_build (build.build_of text.now) }
 {
     match read_directives::parse_genome_build(text) {
-        BuildRead::Is(build) => {
-            let source = build.source;
-            let name = build.name;
-            Gff3BuildValue {
-                refused: 0,
-                source_start: source.start,
-                source_end: source.end,
-                name_start: name.start,
-                name_end: name.end,
-            }
-        }
-        BuildRead::Refused(n) => Gff3BuildValue {
-            refused: n as u64,
+        Ok(build) => Gff3BuildValue {
+            refused: 0,
+            source_start: build.source.start,
+            source_end: build.source.end,
+            name_start: build.name.start,
+            name_end: build.name.end,
+        },
+        Err(refusal) => Gff3BuildValue {
+            refused: refusal.number() as u64,
             source_start: 0,
             source_end: 0,
             name_start: 0,

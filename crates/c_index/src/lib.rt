@@ -11,7 +11,6 @@ ghost use Rattle.read_columns.specs.Columns.{indexed};
 ghost use Rattle.c_index.specs.Index.{c_indexed};
 
 use c_answers::Gff3Bounds;
-use read_columns::Indexed;
 
 #[repr(C)]
 #[derive(Clone, Copy)]
@@ -26,12 +25,12 @@ pub extern "C" fn gff3_index(line: &[u8]) -> Gff3Indexed
     ensures { result ≡ c_indexed (indexed line.now) }
 {
     match read_columns::index(line) {
-        Indexed::At(b) => Gff3Indexed {
+        Ok(b) => Gff3Indexed {
             refused: 0,
             bounds: c_answers::bounds_out(b),
         },
-        Indexed::Refused => Gff3Indexed {
-            refused: 1,
+        Err(r) => Gff3Indexed {
+            refused: r.number() as u64,
             bounds: c_answers::no_bounds(),
         },
     }

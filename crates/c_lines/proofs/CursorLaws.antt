@@ -5,8 +5,9 @@ use native.Mathlib.Omega.{arith}
 use mathlib.Core.Path.{◌≡◌}
 use mathlib.Core.List.{List}
 use lib.ListN.{length}
-use Rattle.read_lines.specs.declared.Next.{Next}
-use Rattle.read_lines.specs.declared.Next.TheVariants.{Line, Done}
+use Rattle.std.specs.Prelude.{Option, Some, None}
+use Rattle.base_scan.specs.declared.place.Place.{Place}
+use Rattle.read_lines.specs.declared.Cursor.{Cursor}
 use Rattle.read_lines.specs.Step.{next_line}
 use Rattle.read_lines.proofs.StepLaws.{Meets, line_meets, done_at_end}
 use Rattle.c_lines.specs.Line.{cursor_of_c, c_line, c_next_line}
@@ -16,14 +17,14 @@ module _ (s : List ℕ) (at : ℕ) where
   pub line_next_inside : (c_next_line s at).next ≤ length s
   line_next_inside = go (next_line s (cursor_of_c at)) (line_meets s (cursor_of_c at))
     where
-      go : (r : Next) → Meets s (cursor_of_c at) r → (c_line (length s) r).next ≤ length s
-      go Done m = omega arith
-      go (Line place next) m = m.within
+      go : (r : Option (Place × Cursor)) → Meets s (cursor_of_c at) r → (c_line (length s) r).next ≤ length s
+      go None m = omega arith
+      go (Some (place, next)) m = m.within
 
   -- once done, done: the next call answers the same
   pub line_done_again : (c_next_line s at).done ≡ 1 → c_next_line s (c_next_line s at).next ≡ c_next_line s at
   line_done_again = go (next_line s (cursor_of_c at))
     where
-      go : (r : Next) → (c_line (length s) r).done ≡ 1 → c_next_line s (c_line (length s) r).next ≡ c_line (length s) r
-      go Done h = rw (done_at_end s)
-      go (Line place next) h = absurd (omega arith)
+      go : (r : Option (Place × Cursor)) → (c_line (length s) r).done ≡ 1 → c_next_line s (c_line (length s) r).next ≡ c_line (length s) r
+      go None h = rw (done_at_end s)
+      go (Some (place, next)) h = absurd (omega arith)

@@ -12,8 +12,8 @@ ghost use Rattle.std.specs.Prelude.{◌≡◌};
 ghost use Rattle.read_kind.specs.Kind.{kind, kind_number, comment_of, directive_of};
 ghost use Rattle.c_lines.specs.Line.{c_next_line, c_comment, c_directive};
 
-use read_kind::{CommentText, DirectiveText, Kind, ValueText};
-use read_lines::{Cursor, Next};
+use read_kind::KeyValue;
+use read_lines::Cursor;
 
 #[repr(C)]
 #[derive(Clone, Copy)]
@@ -49,13 +49,13 @@ pub extern "C" fn gff3_next_line(text: &[u8], at: usize) -> Gff3Line
     ensures { result ≡ c_next_line text.now at }
 {
     match read_lines::next_line(text, Cursor { at }) {
-        Next::Line(place, cursor) => Gff3Line {
+        Some((place, cursor)) => Gff3Line {
             done: 0,
             start: place.start,
             end: place.end,
             next: cursor.at,
         },
-        Next::Done => Gff3Line {
+        None => Gff3Line {
             done: 1,
             start: 0,
             end: 0,
@@ -69,11 +69,7 @@ pub extern "C" fn gff3_next_line(text: &[u8], at: usize) -> Gff3Line
 pub extern "C" fn gff3_kind(line: &[u8]) -> u32
     ensures { result ≡ kind_number (kind line.now) }
 {
-    match read_kind::kind_of(line) {
-        Kind::Directive => 0,
-        Kind::Comment => 1,
-        Kind::Record => 2,
-    }
+    read_kind::kind_of(line) as u32
 }
 
 // The text of a comment.
@@ -82,12 +78,12 @@ pub extern "C" fn gff3_comment(line: &[u8]) -> Gff3CommentText
     ensures { result ≡ c_comment (comment_of line.now) }
 {
     match read_kind::comment_of(line) {
-        CommentText::At(place) => Gff3CommentText {
+        Some(place) => Gff3CommentText {
             is: 1,
             start: place.start,
             end: place.end,
         },
-        CommentText::NotOne => Gff3CommentText {
+        None => Gff3CommentText {
             is: 0,
             start: 0,
             end: 0,
@@ -101,25 +97,28 @@ pub extern "C" fn gff3_directive(line: &[u8]) -> Gff3DirectiveText
     ensures { result ≡ c_directive (directive_of line.now) }
 {
     match read_kind::directive_of(line) {
-        DirectiveText::Is(key, value) => match value {
-            ValueText::At(place) => Gff3DirectiveText {
-                is: 1,
-                key_start: key.start,
-                key_end: key.end,
-                has_value: 1,
-                value_start: place.start,
-                value_end: place.end,
+        Some(
+            KeyValue {
+                key,
+                value: Some(place),
             },
-            ValueText::Absent => Gff3DirectiveText {
-                is: 1,
-                key_start: key.start,
-                key_end: key.end,
-                has_value: 0,
-                value_start: 0,
-                value_end: 0,
-            },
+        ) => Gff3DirectiveText {
+            is: 1,
+            key_start: key.start,
+            key_end: key.end,
+            has_value: 1,
+            value_start: place.start,
+            value_end: place.end,
         },
-        DirectiveText::NotOne => Gff3DirectiveText {
+        Some(KeyValue { key, value: None }) => Gff3DirectiveText {
+            is: 1,
+            key_start: key.start,
+            key_end: key.end,
+            has_value: 0,
+            value_start: 0,
+            value_end: 0,
+        },
+        None => Gff3DirectiveText {
             is: 0,
             key_start: 0,
             key_end: 0,

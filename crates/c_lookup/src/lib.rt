@@ -10,8 +10,6 @@ ghost use Rattle.std.specs.Prelude.{◌≡◌};
 ghost use Rattle.read_lookup.specs.Lookup.{find_tag};
 ghost use Rattle.c_lookup.specs.Lookup.{c_found};
 
-use read_lookup::Found;
-
 #[repr(C)]
 #[derive(Clone, Copy)]
 pub struct Gff3Found {
@@ -27,20 +25,20 @@ pub extern "C" fn gff3_find_tag(column: &[u8], tag: &[u8]) -> Gff3Found
     ensures { result ≡ c_found (find_tag column.now tag.now) }
 {
     match read_lookup::find_tag(column, tag) {
-        Found::At(place) => Gff3Found {
+        Ok(Some(place)) => Gff3Found {
             refused: 0,
             found: 1,
             start: place.start,
             end: place.end,
         },
-        Found::Absent => Gff3Found {
+        Ok(None) => Gff3Found {
             refused: 0,
             found: 0,
             start: 0,
             end: 0,
         },
-        Found::Refused => Gff3Found {
-            refused: 5,
+        Err(refusal) => Gff3Found {
+            refused: refusal.number() as u64,
             found: 0,
             start: 0,
             end: 0,

@@ -1,13 +1,14 @@
 // Gives C the lines of a text that comes in parts.
 //
-// Proved: each struct is the library's definition of the answer, by one definition for the enum, which gives each case its numbers
-// (RULES 10, 16), and the hold is as the library leaves it. Every function takes any bytes and numbers. Assumes nothing.
+// Proved: each struct is the library's definition of the answer, by one definition for the `Result`, which gives each case its
+// numbers (RULES 10, 16), and the hold is as the library leaves it. Every function takes any bytes and numbers. Assumes nothing.
 #![tactic(auto)]
 
 ghost use Rattle.std.specs.Prelude.{◌≡◌};
-ghost use Rattle.c_parts.specs.Part.{tail_of_c, state_of_c, c_tail, c_state, c_part, CTakesPart, CEndsParts};
+ghost use Rattle.c_parts.specs.Part.{tail_of_c, state_of_c, c_tail, c_state, c_came, c_part, CTakesPart, CEndsParts};
 
-use read_parts::{Part, State, Tail};
+use base_refusals::Refusal;
+use read_parts::{Came, Part, State, Tail};
 
 #[repr(C)]
 #[derive(Clone, Copy)]
@@ -60,41 +61,44 @@ fn tail_of(tail: Tail) -> u64
 fn state_of(state: State) -> Gff3State
     ensures { result ≡ c_state state }
 {
-    let tail = state.tail;
     Gff3State {
         held: state.held,
-        tail: tail_of(tail),
+        tail: tail_of(state.tail),
+    }
+}
+
+fn came_of(part: Part) -> Gff3Part
+    ensures { result ≡ c_came part }
+{
+    let none = Gff3Part {
+        refused: 0,
+        has_line: 0,
+        length: 0,
+        taken: part.taken,
+        state: state_of(part.state),
+    };
+    match part.came {
+        Came::Line(length) => Gff3Part {
+            has_line: 1,
+            length,
+            ..none
+        },
+        Came::TooLong => Gff3Part {
+            refused: Refusal::LineTooLong.number() as u64,
+            ..none
+        },
+        Came::NoLine => none,
     }
 }
 
 // An answer; `state` is the one that was handed in.
-fn part_of(part: Part, state: Gff3State) -> Gff3Part
-    ensures { result ≡ c_part state part }
+fn part_of(answer: Result<Part, Refusal>, state: Gff3State) -> Gff3Part
+    ensures { result ≡ c_part state answer }
 {
-    match part {
-        Part::Line(length, taken, next) => Gff3Part {
-            refused: 0,
-            has_line: 1,
-            length,
-            taken,
-            state: state_of(next),
-        },
-        Part::TooLong(taken, next) => Gff3Part {
-            refused: 25,
-            has_line: 0,
-            length: 0,
-            taken,
-            state: state_of(next),
-        },
-        Part::NoLine(taken, next) => Gff3Part {
-            refused: 0,
-            has_line: 0,
-            length: 0,
-            taken,
-            state: state_of(next),
-        },
-        Part::Refused(n) => Gff3Part {
-            refused: n as u64,
+    match answer {
+        Ok(part) => came_of(part),
+        Err(refusal) => Gff3Part {
+            refused: refusal.number() as u64,
             has_line: 0,
             length: 0,
             taken: 0,

@@ -12,7 +12,6 @@ ghost use Rattle.c_answers.specs.Answers.{bounds_of_c};
 ghost use Rattle.c_phase.specs.Phase.{c_phase};
 
 use c_answers::{Gff3Bounds, Gff3Number};
-use read_tokens::PhaseRead;
 
 // Column 8: 0 to 2, and 3 for none. Refusals 1, 4.
 #[unsafe(no_mangle)]
@@ -20,12 +19,12 @@ pub extern "C" fn gff3_phase(line: &[u8], bounds: Gff3Bounds) -> Gff3Number
     ensures { result ≡ c_phase (phase_at line.now (bounds_of_c bounds)) }
 {
     match read_fields::phase_at(line, c_answers::bounds_in(bounds)) {
-        PhaseRead::Is(phase) => Gff3Number {
+        Ok(phase) => Gff3Number {
             refused: 0,
             value: read_tokens::phase_number(phase) as u64,
         },
-        PhaseRead::Refused(n) => Gff3Number {
-            refused: n as u64,
+        Err(r) => Gff3Number {
+            refused: r.number() as u64,
             value: 0,
         },
     }

@@ -6,13 +6,14 @@
 // 16). The function takes any bytes. Assumes nothing.
 #![tactic(auto)]
 
-ghost use Rattle.std.specs.Prelude.{◌≡◌};
-ghost use Rattle.read_fields.specs.declared.record.RecordRead.TheVariants.{Is, Refused};
+ghost use Rattle.std.specs.Prelude.{◌≡◌, Ok, Err};
 ghost use Rattle.read_fields.specs.Fields.{record_of};
 ghost use Rattle.c_record.specs.Record.{score_missing, score_start, score_end, c_record};
 
+use base_refusals::Refusal;
+use base_scan::Place;
 use c_answers::Gff3Bounds;
-use read_fields::{Record, RecordRead, Score};
+use read_fields::Record;
 
 #[repr(C)]
 #[derive(Clone, Copy)]
@@ -36,16 +37,16 @@ struct ScorePlace {
     end: usize,
 }
 
-fn score_place(score: Score) -> ScorePlace
+fn score_place(score: Option<Place>) -> ScorePlace
     ensures { (result.missing ≡ score_missing score) × (result.start ≡ score_start score) × (result.end ≡ score_end score) }
 {
     match score {
-        Score::Missing => ScorePlace {
+        None => ScorePlace {
             missing: 1,
             start: 0,
             end: 0,
         },
-        Score::Token(place) => ScorePlace {
+        Some(place) => ScorePlace {
             missing: 0,
             start: place.start,
             end: place.end,
@@ -54,7 +55,7 @@ fn score_place(score: Score) -> ScorePlace
 }
 
 fn fields_of(read: Record) -> Gff3RecordFields
-    ensures { result ≡ c_record (Is read) }
+    ensures { result ≡ c_record (Ok read) }
 {
     let bounds = read.bounds;
     let score = read.score;
@@ -74,11 +75,11 @@ fn fields_of(read: Record) -> Gff3RecordFields
     }
 }
 
-fn refused_of(n: u32) -> Gff3RecordFields
-    ensures { result ≡ c_record (Refused n) }
+fn refused_of(r: Refusal) -> Gff3RecordFields
+    ensures { result ≡ c_record (Err r) }
 {
     Gff3RecordFields {
-        refused: n as u64,
+        refused: r.number() as u64,
         bounds: c_answers::no_bounds(),
         start: 0,
         end: 0,
@@ -96,7 +97,7 @@ pub extern "C" fn gff3_record(line: &[u8]) -> Gff3RecordFields
     ensures { result ≡ c_record (record_of line.now) }
 {
     match read_fields::record_of(line) {
-        RecordRead::Is(read) => fields_of(read),
-        RecordRead::Refused(n) => refused_of(n),
+        Ok(read) => fields_of(read),
+        Err(r) => refused_of(r),
     }
 }

@@ -1,13 +1,17 @@
 -- The report of a text as C has it (RULES 16, 17). Assumes nothing: these are definitions.
-use Rattle.read_report.specs.declared.morning.Morning.{Morning}
+use Rattle.std.specs.Prelude.{ℕ, Result, Ok, Err}
+use Rattle.base_refusals.specs.declared.Refusal.{Refusal}
+use Rattle.base_refusals.specs.Refusal.{number}
+use Rattle.read_report.specs.declared.totals.Report.{Report}
+use Rattle.read_report.specs.Report.{nothing}
 use Rattle.c_report.specs.declared.Gff3Morning.{Gff3Morning}
 
--- the report, and the number of its refusal, or 0
-abbrev pub c_morning : Morning → Gff3Morning
-c_morning m =
-    let t = m.report.totals in
+-- a report, and the number of the refusal beside it, or 0
+abbrev pub c_counts : ℕ → Report → Gff3Morning
+c_counts refused r =
+    let t = r.totals in
     record {
-      refused = m.refused;
+      refused = refused;
       records = t.records;
       directives = t.directives;
       comments = t.comments;
@@ -20,5 +24,10 @@ c_morning m =
       refused_strand = t.refused_strand;
       refused_phase = t.refused_phase;
       refused_attribute = t.refused_attribute;
-      lengths = m.report.lengths;
+      lengths = r.lengths;
     }
+
+-- where it is refused, every count is 0
+abbrev pub c_morning : Result Report Refusal → Gff3Morning
+c_morning (Ok r) = c_counts 0 r
+c_morning (Err r) = c_counts (number r) nothing

@@ -6,9 +6,10 @@
 
 ghost use Rattle.std.specs.Prelude.{◌≡◌};
 ghost use Rattle.read_report.specs.Report.{morning};
-ghost use Rattle.c_report.specs.Report.{c_morning};
+ghost use Rattle.c_report.specs.Report.{c_counts, c_morning};
 
-use read_report::Morning;
+use base_refusals::Refusal;
+use read_report::{Report, Totals};
 
 #[repr(C)]
 #[derive(Clone, Copy)]
@@ -29,14 +30,13 @@ pub struct Gff3Morning {
     pub lengths: [u64; 64],
 }
 
-fn report_in(morning: Morning) -> Gff3Morning
-    ensures { result ≡ c_morning morning }
+// A report, and the number of the refusal beside it, or 0.
+fn counts_of(refused: u32, report: Report) -> Gff3Morning
+    ensures { result ≡ c_counts refused report }
 {
-    let report = morning.report;
-    let lengths = report.lengths;
-    let totals = report.totals;
+    let Report { lengths, totals } = report;
     Gff3Morning {
-        refused: morning.refused as u64,
+        refused: refused as u64,
         records: totals.records,
         directives: totals.directives,
         comments: totals.comments,
@@ -50,6 +50,21 @@ fn report_in(morning: Morning) -> Gff3Morning
         refused_phase: totals.refused_phase,
         refused_attribute: totals.refused_attribute,
         lengths,
+    }
+}
+
+fn report_in(answer: Result<Report, Refusal>) -> Gff3Morning
+    ensures { result ≡ c_morning answer }
+{
+    match answer {
+        Ok(report) => counts_of(0, report),
+        Err(refusal) => counts_of(
+            refusal.number(),
+            Report {
+                lengths: [0; 64],
+                totals: Totals::default(),
+            },
+        ),
     }
 }
 

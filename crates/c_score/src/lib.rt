@@ -12,7 +12,6 @@ ghost use Rattle.c_answers.specs.Answers.{bounds_of_c};
 ghost use Rattle.c_score.specs.Score.{c_score};
 
 use c_answers::Gff3Bounds;
-use read_fields::ScoreRead;
 
 #[repr(C)]
 #[derive(Clone, Copy)]
@@ -29,20 +28,20 @@ pub extern "C" fn gff3_score(line: &[u8], bounds: Gff3Bounds) -> Gff3ScoreText
     ensures { result ≡ c_score (score_at line.now (bounds_of_c bounds)) }
 {
     match read_fields::score_at(line, c_answers::bounds_in(bounds)) {
-        ScoreRead::Missing => Gff3ScoreText {
+        Ok(None) => Gff3ScoreText {
             refused: 0,
             missing: 1,
             start: 0,
             end: 0,
         },
-        ScoreRead::Token(place) => Gff3ScoreText {
+        Ok(Some(place)) => Gff3ScoreText {
             refused: 0,
             missing: 0,
             start: place.start,
             end: place.end,
         },
-        ScoreRead::Refused(n) => Gff3ScoreText {
-            refused: n as u64,
+        Err(r) => Gff3ScoreText {
+            refused: r.number() as u64,
             missing: 0,
             start: 0,
             end: 0,

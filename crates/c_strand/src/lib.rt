@@ -12,7 +12,6 @@ ghost use Rattle.c_answers.specs.Answers.{bounds_of_c};
 ghost use Rattle.c_strand.specs.Strand.{c_strand};
 
 use c_answers::{Gff3Bounds, Gff3Number};
-use read_tokens::StrandRead;
 
 // Column 7: 0 to 3 for `.` `+` `-` `?`. Refusals 1, 3.
 #[unsafe(no_mangle)]
@@ -20,12 +19,12 @@ pub extern "C" fn gff3_strand(line: &[u8], bounds: Gff3Bounds) -> Gff3Number
     ensures { result ≡ c_strand (strand_at line.now (bounds_of_c bounds)) }
 {
     match read_fields::strand_at(line, c_answers::bounds_in(bounds)) {
-        StrandRead::Is(strand) => Gff3Number {
+        Ok(strand) => Gff3Number {
             refused: 0,
             value: read_tokens::strand_number(strand) as u64,
         },
-        StrandRead::Refused(n) => Gff3Number {
-            refused: n as u64,
+        Err(r) => Gff3Number {
+            refused: r.number() as u64,
             value: 0,
         },
     }

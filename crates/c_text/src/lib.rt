@@ -10,12 +10,13 @@ ghost use Rattle.base_buffer.specs.Answer.{Wrote};
 ghost use Rattle.c_answers.specs.Answers.{bounds_of_c, CWrote};
 ghost use Rattle.c_text.specs.Text.{text_column_of_c, c_text_reasons, c_text};
 
-use base_buffer::Written;
+use base_buffer::WriteError;
+use base_refusals::Refusal;
 use c_answers::{Gff3Bounds, Gff3Written};
 use read_columns::Bounds;
 
 // Columns 1 to 3 by their numbers, decoded into a lent buffer.
-fn text(line: &[u8], bounds: Bounds, column: u32, out: &mut [u8]) -> Written
+fn text(line: &[u8], bounds: Bounds, column: u32, out: &mut [u8]) -> Result<usize, WriteError>
     ensures { Wrote (c_text_reasons (text_column_of_c column) line.now bounds)
         (c_text (text_column_of_c column) line.now) out.old out.new result }
 {
@@ -23,7 +24,7 @@ fn text(line: &[u8], bounds: Bounds, column: u32, out: &mut [u8]) -> Written
         1 => read_fields::reference_sequence_name(line, bounds, out),
         2 => read_fields::source(line, bounds, out),
         3 => read_fields::ty(line, bounds, out),
-        _ => Written::Refused(1),
+        _ => Err(WriteError::Refused(Refusal::Columns)),
     }
 }
 

@@ -8,9 +8,8 @@ ghost use Rattle.std.specs.Prelude.{◌≡◌};
 ghost use Rattle.read_judge.specs.Judge.{judged};
 ghost use Rattle.c_unfold.specs.Sheet.{c_refused, c_numbers, c_judged, c_unfolded, CUnfolds};
 
-use base_buffer::Written;
-use read_judge::{Judged, Numbers};
-use read_record::Unfolded;
+use base_buffer::WriteError;
+use read_judge::Numbers;
 
 #[repr(C)]
 #[derive(Clone, Copy)]
@@ -23,10 +22,10 @@ pub struct Gff3Unfolded {
     pub phase: u32,
 }
 
-fn refused_of(refused: Written) -> Gff3Unfolded
-    ensures { result ≡ c_refused refused }
+fn refused_of(error: WriteError) -> Gff3Unfolded
+    ensures { result ≡ c_refused error }
 {
-    let answer = c_answers::written_of(refused);
+    let answer = c_answers::written_of(Err(error));
     Gff3Unfolded {
         refused: answer.refused,
         length: answer.length,
@@ -52,13 +51,12 @@ fn numbers_of(numbers: Numbers, length: usize) -> Gff3Unfolded
     }
 }
 
-fn unfolded_of(unfolded: Unfolded) -> Gff3Unfolded
+fn unfolded_of(unfolded: Result<(Numbers, usize), WriteError>) -> Gff3Unfolded
     ensures { result ≡ c_unfolded unfolded }
 {
     match unfolded {
-        Unfolded::Done(numbers, length) => numbers_of(numbers, length),
-        Unfolded::Refused(n) => refused_of(Written::Refused(n)),
-        Unfolded::NoRoom(length) => refused_of(Written::NoRoom(length)),
+        Ok((numbers, length)) => numbers_of(numbers, length),
+        Err(error) => refused_of(error),
     }
 }
 
@@ -68,8 +66,8 @@ pub extern "C" fn gff3_judge(line: &[u8]) -> Gff3Unfolded
     ensures { result ≡ c_judged (judged line.now) }
 {
     match read_judge::judge(line) {
-        Judged::Is(numbers, length) => numbers_of(numbers, length),
-        Judged::Refused(n) => refused_of(Written::Refused(n)),
+        Ok((numbers, need)) => numbers_of(numbers, need),
+        Err(refusal) => refused_of(WriteError::Refused(refusal)),
     }
 }
 

@@ -12,7 +12,7 @@ ghost use Rattle.c_answers.specs.Answers.{CWrote};
 ghost use Rattle.c_write.specs.Value.{part_of_c, version_of_c, value_of_c};
 
 use c_answers::Gff3Written;
-use read_version::{GffVersion, Part};
+use read_version::GffVersion;
 use write_directive::Value;
 
 // The value of a directive. `kind` is 1 for a text, 2 for a version, 3 for a region, 4 for a build; any other number says that there is
@@ -30,10 +30,10 @@ pub struct Gff3DirectiveValue {
     pub end: u64,
 }
 
-fn part_in(has: u32, n: u32) -> Part
+fn part_in(has: u32, n: u32) -> Option<u32>
     ensures { result ≡ part_of_c has n }
 {
-    if has == 0 { Part::Absent } else { Part::Is(n) }
+    if has == 0 { None } else { Some(n) }
 }
 
 fn version_in(value: Gff3DirectiveValue) -> GffVersion

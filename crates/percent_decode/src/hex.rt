@@ -2,7 +2,7 @@
 ghost use Rattle.percent_decode.specs.Inner.Unit.{Hex};
 
 // The value of a hex digit of either case, and 16 for any other byte. All three ranges are asked: a return from the first that has the
-// byte would be a branch for each digit, and which way it goes cannot be foretold.
+// byte would be a branch for each digit, and which way it goes cannot be foretold; so the answer is no `Option`.
 pub(crate) fn hex_value(b: u8) -> u8
     ensures { Hex b result }
 {

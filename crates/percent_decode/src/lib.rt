@@ -8,6 +8,7 @@
 #![tactic(auto)]
 
 mod hex;
+mod put;
 
 ghost use Rattle.std.specs.Prelude.{◌≡◌, [], ◌≤◌, ◌<◌, length};
 ghost use Rattle.base_words.specs.Same.{same};
@@ -16,7 +17,9 @@ ghost use Rattle.base_buffer.specs.Laid.{Lays};
 ghost use Rattle.percent_coding.specs.Percent.{decoded};
 ghost use Rattle.percent_decode.specs.Inner.Unit.{Decodes};
 
-use base_buffer::Written;
+use base_buffer::WriteError;
+use base_sink::Page;
+pub use put::put_decoded;
 
 // A decoded byte, and where the next one begins.
 #[derive(Clone, Copy)]
@@ -52,8 +55,9 @@ fn decode_at(s: &[u8], i: usize) -> Unit
     kept
 }
 
-// How long the text is when decoded. Runs without a percent sign count as they are. The next percent sign is sought only where a run
-// begins: a search before each of many escapes that stand side by side would take longer than decoding them.
+// How long the text is when decoded. A step is one byte, three or a run, which no iterator makes. Runs without a percent sign count as
+// they are. The next percent sign is sought only where a run begins: a search before each of many escapes that stand side by side would
+// take longer than decoding them.
 pub fn decoded_len(s: &[u8]) -> usize
     ensures { (result ≡ length (decoded s.now)) × (result ≤ length s.now) }
 {
@@ -72,7 +76,7 @@ pub fn decoded_len(s: &[u8]) -> usize
     n
 }
 
-// Whether the text is `plain` when decoded: a comparison without a buffer.
+// Whether the text is `plain` when decoded: a comparison without a buffer, by steps of one byte or three, which no iterator makes.
 pub fn decodes_to(s: &[u8], plain: &[u8]) -> bool
     ensures { result ≡ same (decoded s.now) plain.now }
 {
@@ -92,38 +96,30 @@ pub fn decodes_to(s: &[u8], plain: &[u8]) -> bool
     j == plain.len()
 }
 
-// Lays the decoded text over a buffer from `at` on: runs without a percent sign, found as in `decoded_len`, are copied.
+// Lays the decoded text over a buffer from `at` on.
 pub fn lay_decoded(s: &[u8], out: &mut [u8], at: usize) -> usize
     ensures { Lays (decoded s.now) out.old at out.new result }
 {
-    let mut to = base_numbers::least(at, out.len());
-    let mut i = 0;
-    while i < s.len() {
-        if s[i] == b'%' {
-            let unit = decode_at(s, i);
-            to = base_buffer::lay_byte(unit.byte, out, to);
-            i = unit.next;
-        } else {
-            let sign = base_scan::find(s, i + 1, b'%');
-            to = base_buffer::lay(base_scan::part(s, i, sign), out, to);
-            i = sign;
-        }
-    }
-    to
+    let mut page = Page {
+        at: at.min(out.len()),
+        out,
+    };
+    put_decoded(s, &mut page);
+    page.at
 }
 
 // Writes the decoded text at the start of a buffer; refusal 22, with the length needed, where it does not fit. Decoding makes no text
 // longer, so where the text itself would fit the decoded one is laid without being measured first.
-pub fn decode(s: &[u8], out: &mut [u8]) -> Written
+pub fn decode(s: &[u8], out: &mut [u8]) -> Result<usize, WriteError>
     ensures { Wrote [] (decoded s.now) out.old out.new result }
 {
     if s.len() <= out.len() {
-        return Written::Done(lay_decoded(s, out, 0));
+        return Ok(lay_decoded(s, out, 0));
     }
     let need = decoded_len(s);
     if out.len() < need {
-        return Written::NoRoom(need);
+        return Err(WriteError::NoRoom(need));
     }
     lay_decoded(s, out, 0);
-    Written::Done(need)
+    Ok(need)
 }

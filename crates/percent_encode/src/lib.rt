@@ -8,16 +8,20 @@
 #![tactic(auto)]
 
 mod plain;
+mod put;
 
 ghost use Rattle.std.specs.Prelude.{◌≡◌, ◌-◌, ◌*◌, ◌^◌, ◌<◌, ◌≤◌, min, length};
 ghost use Rattle.base_buffer.specs.Answer.{Wrote};
 ghost use Rattle.base_buffer.specs.Laid.{Lays};
-ghost use Rattle.percent_coding.specs.Percent.{hex_digit, escape, piece, encoded, count_escaped};
-ghost use Rattle.percent_sets.specs.Sets.{escapes, classes};
+ghost use Rattle.percent_coding.specs.Percent.{hex_digit, encoded, count_escaped};
+ghost use Rattle.percent_sets.specs.Sets.{escapes};
 ghost use Rattle.percent_encode.specs.Encode.{encode_reasons};
 
-use base_buffer::Written;
+use base_buffer::WriteError;
+use base_refusals::Refusal;
+use base_sink::Page;
 use percent_sets::Set;
+pub use put::{Coded, put_encoded};
 
 // How many bytes of a text the set escapes: encoded, the text is two bytes longer for each.
 pub fn count_escaped(set: Set, s: &[u8]) -> usize
@@ -25,10 +29,8 @@ pub fn count_escaped(set: Set, s: &[u8]) -> usize
 {
     let table = percent_sets::classes();
     let mut n: usize = 0;
-    let mut i = 0;
-    while i < s.len() {
-        n += percent_sets::escaped_by(&table, set, s[i]) as usize;
-        i += 1;
+    for &b in s {
+        n += percent_sets::escaped_by(&table, set, b) as usize;
     }
     n
 }
@@ -41,68 +43,36 @@ fn hex_digit(n: u8) -> u8
     if n <= 9 { 48 + n } else { 55 + n }
 }
 
-fn lay_escape(b: u8, out: &mut [u8], at: usize) -> usize
-    ensures { Lays (escape b) out.old at out.new result }
-{
-    let high = base_buffer::lay_byte(b'%', out, at);
-    let low = base_buffer::lay_byte(hex_digit(b / 16), out, high);
-    base_buffer::lay_byte(hex_digit(b % 16), out, low)
-}
-
-// One byte, escaped where the table says so.
-fn lay_piece(table: &[u8; 256], set: Set, b: u8, out: &mut [u8], at: usize) -> usize
-    requires { table.now ≡ classes }
-    ensures { Lays (piece (escapes set) b) out.old at out.new result }
-{
-    if percent_sets::escaped_by(table, set, b) {
-        lay_escape(b, out, at)
-    } else {
-        base_buffer::lay_byte(b, out, at)
-    }
-}
-
-// Byte by byte: for a text of which something may be escaped.
-fn lay_pieces(set: Set, s: &[u8], out: &mut [u8], at: usize) -> usize
-    ensures { Lays (encoded (escapes set) s.now) out.old at out.new result }
-{
-    let table = percent_sets::classes();
-    let mut to = base_numbers::least(at, out.len());
-    let mut i = 0;
-    while i < s.len() {
-        to = lay_piece(&table, set, s[i], out, to);
-        i += 1;
-    }
-    to
-}
-
 // Lays the encoded text over a buffer from `at` on: a copy, where nothing is escaped.
 pub fn lay_encoded(set: Set, s: &[u8], out: &mut [u8], at: usize) -> usize
     ensures { Lays (encoded (escapes set) s.now) out.old at out.new result }
 {
-    if plain::stays(set, s) {
-        return base_buffer::lay(s, out, at);
-    }
-    lay_pieces(set, s, out, at)
+    let mut page = Page {
+        at: at.min(out.len()),
+        out,
+    };
+    put_encoded(set, s, &mut page);
+    page.at
 }
 
 // Writes the encoded text at the start of a buffer. Refusals, in order: 24, the text is over 1,048,576 bytes; 22, with the length
 // needed, where it does not fit. Where three bytes for each fit, any text does, and nothing is measured.
-pub fn encode(set: Set, s: &[u8], out: &mut [u8]) -> Written
+pub fn encode(set: Set, s: &[u8], out: &mut [u8]) -> Result<usize, WriteError>
     ensures { Wrote (encode_reasons s.now)
         (encoded (escapes set) s.now) out.old out.new result }
 {
     if base_buffer::MOST_TEXT < s.len() {
-        return Written::Refused(24);
+        return Err(WriteError::Refused(Refusal::TooLong));
     }
     if 3 * s.len() <= out.len() {
-        return Written::Done(lay_encoded(set, s, out, 0));
+        return Ok(lay_encoded(set, s, out, 0));
     }
     let need = s.len() + 2 * count_escaped(set, s);
     if out.len() < need {
-        return Written::NoRoom(need);
+        return Err(WriteError::NoRoom(need));
     }
     lay_encoded(set, s, out, 0);
-    Written::Done(need)
+    Ok(need)
 }
 
 // The length of a text encoded by a set, at most three bytes for one; where no number is so large, the largest.

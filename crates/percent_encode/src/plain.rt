@@ -18,7 +18,8 @@ fn stands(b: u8) -> bool
         | ((b'>' <= b) & (b <= b'~'))
 }
 
-// Whether each of n bytes from `at` on stands for itself.
+// Whether each of n bytes from `at` on stands for itself. All are asked: `all` of an iterator would stop at the first that does not, by a
+// branch for each.
 fn all_stand(s: &[u8], at: usize, n: usize) -> bool
     requires { at + n ≤ length s.now }
     ensures { result ≡ eqb (count_escaped (escapes Attribute) (take n (drop at s.now))) 0 }
@@ -30,7 +31,7 @@ fn all_stand(s: &[u8], at: usize, n: usize) -> bool
     all
 }
 
-// By windows of 16 bytes; the last one overlaps the one before it.
+// By windows of 16 bytes; the last one overlaps the one before it, so these are no chunks of an iterator.
 fn many_stand(s: &[u8]) -> bool
     requires { 16 ≤ length s.now }
     ensures { result ≡ eqb (count_escaped (escapes Attribute) s.now) 0 }

@@ -21,6 +21,7 @@ pub enum Set {
     Attribute,
 }
 
+// A line for each byte, by its name, so that a reader can hold it to RULES 6.3; rows of numbers would be shorter and could not be read so.
 // How many sets escape each byte. 3: every one; 2: tags and values, and column 1; 1: column 1 alone; 0: none.
 const CLASSES: [u8; 256] = [
     3, // 0x00

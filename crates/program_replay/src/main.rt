@@ -11,7 +11,7 @@ use program_replay_read::{
     attributes_cases, columns_cases, directive_cases, leaves, line_cases, parts_cases,
 };
 use program_replay_words::{case, show};
-use read_lines::{Cursor, Next};
+use read_lines::Cursor;
 
 // A comment of the list is its own answer.
 fn comment(line: &[u8]) {
@@ -73,14 +73,9 @@ fn turn(line: &[u8])
 // The cases of a block, which holds whole lines, and blank ones that fill it up.
 fn replay(cases: &[u8]) {
     let mut cursor = Cursor::new();
-    loop {
-        match read_lines::next_line(cases, cursor) {
-            Next::Line(place, next) => {
-                turn(base_scan::text(cases, place));
-                cursor = next;
-            }
-            Next::Done => return,
-        }
+    while let Some((place, next)) = read_lines::next_line(cases, cursor) {
+        turn(base_scan::text(cases, place));
+        cursor = next;
     }
 }
 
@@ -94,11 +89,9 @@ fn block() -> bool {
 
 // At most 1,024 blocks.
 fn main() {
-    let mut left: u32 = 1024;
-    while 0 < left {
+    for _ in 0..1024 {
         if !block() {
             return;
         }
-        left -= 1;
     }
 }

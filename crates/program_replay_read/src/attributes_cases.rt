@@ -4,46 +4,49 @@ ghost use Rattle.std.specs.Prelude.{◌≡◌};
 ghost use Rattle.read_attributes.specs.Step.{next_field};
 ghost use Rattle.read_lookup.specs.Lookup.{find_tag};
 
+use base_refusals::Refusal;
+use base_scan::Place;
 use program_replay_words::show;
-use read_attributes::{Field, Step};
-use read_lookup::Found;
-use read_values::{NextValue, ValueCursor};
+use read_attributes::Field;
+use read_values::ValueCursor;
+use read_walker::Attributes;
 
 fn tag_and_value(column: &[u8], field: Field) {
-    let tag = field.tag;
-    let value = field.value;
-    show::text(column, tag);
-    show::text(column, value)
+    show::text(column, field.tag);
+    show::text(column, field.value)
 }
 
 // F COLUMN: the first tag and value as they stand, or a dot or 5
 pub fn first(column: &[u8]) {
     match read_walker::first_field(column) {
-        Step::Is(field) => tag_and_value(column, field),
-        Step::Done => show::done(),
-        Step::Refused => show::refused(5),
+        Ok(Some(field)) => tag_and_value(column, field),
+        Ok(None) => show::done(),
+        Err(refusal) => show::refused(refusal.number()),
     }
 }
 
 // The attribute at a place of a column, by a walker that is made, moved there and dropped here.
-fn field_at(column: &[u8], at: usize) -> Step
+fn field_at(column: &[u8], at: usize) -> Result<Option<Field>, Refusal>
     ensures { result ≡ next_field column.now at }
 {
-    read_walker::next(read_walker::moved(read_walker::walk_over(column), at))
+    Attributes::walk_over(column).moved(at).next()
+}
+
+// Each tag and value as they stand.
+fn fields(column: &[u8]) -> Result<(), Refusal> {
+    let mut from = 0;
+    while let Some(field) = field_at(column, from)? {
+        tag_and_value(column, field);
+        from = field.next;
+    }
+    Ok(())
 }
 
 // W COLUMN: each tag and value as they stand, and a dot or 5
 pub fn walk(column: &[u8]) {
-    let mut from = 0;
-    loop {
-        match field_at(column, from) {
-            Step::Is(field) => {
-                tag_and_value(column, field);
-                from = field.next;
-            }
-            Step::Done => return show::done(),
-            Step::Refused => return show::refused(5),
-        }
+    match fields(column) {
+        Ok(()) => show::done(),
+        Err(refusal) => show::refused(refusal.number()),
     }
 }
 
@@ -57,31 +60,27 @@ fn decoded(value: &[u8]) {
 // V VALUE: each value, decoded, and a dot
 pub fn values_of(value: &[u8]) {
     let mut cursor = ValueCursor::new();
-    let mut left: u32 = 513;
-    while 0 < left {
-        match read_values::next_value(value, cursor) {
-            NextValue::Is(place, next) => {
-                decoded(base_scan::text(value, place));
-                cursor = next;
-            }
-            NextValue::Done => return show::done(),
-        }
-        left -= 1;
+    for _ in 0..513 {
+        let Some((place, next)) = read_values::next_value(value, cursor) else {
+            return show::done();
+        };
+        decoded(base_scan::text(value, place));
+        cursor = next;
     }
 }
 
 // Where the value of a tag stands, by a walker that is made and dropped here.
-fn value_of<'a, 'b>(column: &'a [u8], tag: &'b [u8]) -> Found
+fn value_of<'a, 'b>(column: &'a [u8], tag: &'b [u8]) -> Result<Option<Place>, Refusal>
     ensures { result ≡ find_tag column.now tag.now }
 {
-    read_walker::get(read_walker::walk_over(column), tag)
+    Attributes::walk_over(column).get(tag)
 }
 
-fn found(column: &[u8], answer: Found) {
+fn found(column: &[u8], answer: Result<Option<Place>, Refusal>) {
     match answer {
-        Found::At(place) => show::text(column, place),
-        Found::Absent => show::word(b"none"),
-        Found::Refused => show::refused(5),
+        Ok(Some(place)) => show::text(column, place),
+        Ok(None) => show::word(b"none"),
+        Err(refusal) => show::refused(refusal.number()),
     }
 }
 

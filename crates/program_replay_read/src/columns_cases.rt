@@ -1,8 +1,9 @@
 // Cases of records: bounds and fields.
+use base_refusals::Refusal;
+use base_scan::Place;
 use program_replay_words::show;
-use read_columns::{Bounds, Column, ColumnRead, Indexed};
-use read_fields::ScoreRead;
-use read_tokens::{PhaseRead, PositionRead, StrandRead};
+use read_columns::{Bounds, Column};
+use read_tokens::{Phase, Strand};
 
 fn eight(b: Bounds) {
     show::number(b.reference_sequence_name_end as u64);
@@ -18,44 +19,44 @@ fn eight(b: Bounds) {
 // B LINE: the eight bounds
 pub fn bounds(text: &[u8]) {
     match read_columns::index(text) {
-        Indexed::At(b) => eight(b),
-        Indexed::Refused => show::refused(1),
+        Ok(b) => eight(b),
+        Err(r) => show::refused(r.number()),
     }
 }
 
-fn position(answer: PositionRead) {
+fn position(answer: Result<u64, Refusal>) {
     match answer {
-        PositionRead::Is(n) => show::number(n),
-        PositionRead::Refused(n) => show::refused(n),
+        Ok(n) => show::number(n),
+        Err(r) => show::refused(r.number()),
     }
 }
 
-fn score(s: &[u8], answer: ScoreRead) {
+fn score(s: &[u8], answer: Result<Option<Place>, Refusal>) {
     match answer {
-        ScoreRead::Missing => show::word(b"."),
-        ScoreRead::Token(place) => show::text(s, place),
-        ScoreRead::Refused(n) => show::refused(n),
+        Ok(None) => show::word(b"."),
+        Ok(Some(place)) => show::text(s, place),
+        Err(r) => show::refused(r.number()),
     }
 }
 
-fn strand(answer: StrandRead) {
+fn strand(answer: Result<Strand, Refusal>) {
     match answer {
-        StrandRead::Is(which) => show::number(read_tokens::strand_number(which) as u64),
-        StrandRead::Refused(n) => show::refused(n),
+        Ok(which) => show::number(read_tokens::strand_number(which) as u64),
+        Err(r) => show::refused(r.number()),
     }
 }
 
-fn phase(answer: PhaseRead) {
+fn phase(answer: Result<Phase, Refusal>) {
     match answer {
-        PhaseRead::Is(which) => show::number(read_tokens::phase_number(which) as u64),
-        PhaseRead::Refused(n) => show::refused(n),
+        Ok(which) => show::number(read_tokens::phase_number(which) as u64),
+        Err(r) => show::refused(r.number()),
     }
 }
 
-fn raw(s: &[u8], answer: ColumnRead) {
+fn raw(s: &[u8], answer: Result<Place, Refusal>) {
     match answer {
-        ColumnRead::At(place) => show::text(s, place),
-        ColumnRead::Refused => show::refused(1),
+        Ok(place) => show::text(s, place),
+        Err(r) => show::refused(r.number()),
     }
 }
 
@@ -85,7 +86,7 @@ fn fields(s: &[u8], b: Bounds) {
 // R LINE: each field in order; with a word more, at bounds that are another line's
 pub fn record(text: &[u8], other: &[u8]) {
     match read_columns::index(other) {
-        Indexed::At(b) => fields(text, b),
-        Indexed::Refused => show::refused(1),
+        Ok(b) => fields(text, b),
+        Err(r) => show::refused(r.number()),
     }
 }

@@ -1,34 +1,31 @@
 // Cases of the typed values of directives.
 use program_replay_words::show;
-use read_directives::{BuildRead, GenomeBuild, RegionRead, SequenceRegion};
-use read_version::{GffVersion, Part, VersionRead};
+use read_directives::{GenomeBuild, SequenceRegion};
+use read_version::GffVersion;
 
-fn part(answer: Part) {
+fn part(answer: Option<u32>) {
     match answer {
-        Part::Is(n) => show::number(n as u64),
-        Part::Absent => show::word(b"none"),
+        Some(n) => show::number(n as u64),
+        None => show::word(b"none"),
     }
 }
 
 fn parts(v: GffVersion) {
-    let minor = v.minor;
-    let patch = v.patch;
     show::number(v.major as u64);
-    part(minor);
-    part(patch)
+    part(v.minor);
+    part(v.patch)
 }
 
 // 1 TEXT: major, minor, patch
 pub fn version(text: &[u8]) {
     match read_version::parse_gff_version(text) {
-        VersionRead::Is(v) => parts(v),
-        VersionRead::Refused(n) => show::refused(n),
+        Ok(v) => parts(v),
+        Err(refusal) => show::refused(refusal.number()),
     }
 }
 
 fn bounds(s: &[u8], r: SequenceRegion) {
-    let name = r.name;
-    show::text(s, name);
+    show::text(s, r.name);
     show::number(r.start);
     show::number(r.end)
 }
@@ -36,22 +33,20 @@ fn bounds(s: &[u8], r: SequenceRegion) {
 // 2 TEXT: name, start, end
 pub fn region(text: &[u8]) {
     match read_directives::parse_sequence_region(text) {
-        RegionRead::Is(r) => bounds(text, r),
-        RegionRead::Refused(n) => show::refused(n),
+        Ok(r) => bounds(text, r),
+        Err(refusal) => show::refused(refusal.number()),
     }
 }
 
 fn names(s: &[u8], b: GenomeBuild) {
-    let source = b.source;
-    let name = b.name;
-    show::text(s, source);
-    show::text(s, name)
+    show::text(s, b.source);
+    show::text(s, b.name)
 }
 
 // 3 TEXT: source, name
 pub fn build(text: &[u8]) {
     match read_directives::parse_genome_build(text) {
-        BuildRead::Is(b) => names(text, b),
-        BuildRead::Refused(n) => show::refused(n),
+        Ok(b) => names(text, b),
+        Err(refusal) => show::refused(refusal.number()),
     }
 }

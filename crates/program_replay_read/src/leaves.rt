@@ -1,7 +1,6 @@
 // Cases of finding, numbers and percent coding.
 use percent_sets::Set;
 use program_replay_words::{case, show};
-use read_numbers::Number;
 
 // The largest buffer that a case lends.
 const ROOM: usize = 512;
@@ -21,10 +20,10 @@ pub fn word(line: &[u8], text: &[u8]) {
     show::number(place.end as u64)
 }
 
-fn read(answer: Number) {
+fn read(answer: Option<u64>) {
     match answer {
-        Number::Value(n) => show::number(n),
-        Number::Invalid => show::word(b"!"),
+        Some(n) => show::number(n),
+        None => show::word(b"!"),
     }
 }
 

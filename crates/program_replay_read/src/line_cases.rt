@@ -1,20 +1,17 @@
 // Cases of lines: splitting, kind, comment and directive.
+use base_scan::Place;
 use program_replay_words::show;
-use read_kind::{CommentText, DirectiveText, Kind, ValueText};
-use read_lines::{Cursor, Next};
+use read_kind::{KeyValue, Kind};
+use read_lines::Cursor;
 
 // L TEXT: each line, and a dot
 pub fn lines_of(text: &[u8]) {
     let mut cursor = Cursor::new();
-    loop {
-        match read_lines::next_line(text, cursor) {
-            Next::Line(place, next) => {
-                show::text(text, place);
-                cursor = next;
-            }
-            Next::Done => return show::done(),
-        }
+    while let Some((place, next)) = read_lines::next_line(text, cursor) {
+        show::text(text, place);
+        cursor = next;
     }
+    show::done()
 }
 
 // K LINE: directive, comment or record
@@ -26,28 +23,25 @@ pub fn kind(text: &[u8]) {
     }
 }
 
-// C LINE: a comment's text
-pub fn comment(text: &[u8]) {
-    match read_kind::comment_of(text) {
-        CommentText::At(place) => show::text(text, place),
-        CommentText::NotOne => show::word(b"none"),
+fn text_or_none(line: &[u8], place: Option<Place>) {
+    match place {
+        Some(place) => show::text(line, place),
+        None => show::word(b"none"),
     }
 }
 
-fn value(line: &[u8], value: ValueText) {
-    match value {
-        ValueText::At(place) => show::text(line, place),
-        ValueText::Absent => show::word(b"none"),
-    }
+// C LINE: a comment's text
+pub fn comment(text: &[u8]) {
+    text_or_none(text, read_kind::comment_of(text))
 }
 
 // D LINE: key and value of a directive
 pub fn directive(text: &[u8]) {
     match read_kind::directive_of(text) {
-        DirectiveText::Is(key, after) => {
+        Some(KeyValue { key, value }) => {
             show::text(text, key);
-            value(text, after)
+            text_or_none(text, value)
         }
-        DirectiveText::NotOne => show::word(b"none"),
+        None => show::word(b"none"),
     }
 }

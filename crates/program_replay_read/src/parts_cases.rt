@@ -1,70 +1,52 @@
 // Cases of a text that comes in parts.
+use base_refusals::Refusal;
 use program_replay_words::{case, show};
-use read_parts::{Part, State};
+use read_parts::{Came, Part, State};
 
 // As many letters as a case has before its text, `a` to `w` again and again, at the start of a buffer; how many they are.
 fn letters(n: usize, out: &mut [u8]) -> usize {
-    let end = base_numbers::least(n, out.len());
-    let mut i = 0;
-    while i < end {
-        out[i] = 97 + (i % 23) as u8;
-        i += 1;
+    let end = n.min(out.len());
+    for (i, b) in out[..end].iter_mut().enumerate() {
+        *b = b'a' + (i % 23) as u8;
     }
     end
 }
 
 // The length of the next part: n; for 0, no byte and one in turn.
-fn size(n: usize, left: u32) -> usize {
-    if n == 0 {
-        return (left % 2) as usize;
-    }
-    n
+fn size(n: usize, turn: u32) -> usize {
+    if n == 0 { (turn % 2) as usize } else { n }
 }
 
 // What an answer tells: a line, a refusal or nothing.
-fn tell(answer: Part, hold: &[u8]) {
+fn tell(answer: Result<Part, Refusal>, hold: &[u8]) {
     match answer {
-        Part::Line(length, _, _) => show::hex(base_scan::part(hold, 0, length)),
-        Part::TooLong(_, _) => show::refused(25),
-        Part::NoLine(_, _) => (),
-        Part::Refused(n) => show::refused(n),
+        Ok(part) => match part.came {
+            Came::Line(length) => show::hex(base_scan::part(hold, 0, length)),
+            Came::TooLong => show::refused(Refusal::LineTooLong.number()),
+            Came::NoLine => (),
+        },
+        Err(refusal) => show::refused(refusal.number()),
     }
 }
 
-fn taken(answer: Part) -> usize {
-    match answer {
-        Part::Line(_, taken, _) => taken,
-        Part::TooLong(taken, _) => taken,
-        Part::NoLine(taken, _) => taken,
-        Part::Refused(_) => 0,
-    }
-}
-
-// The state for the next call; behind 34, which no case gives, a fresh one.
-fn next(answer: Part) -> State {
-    match answer {
-        Part::Line(_, _, next) => next,
-        Part::TooLong(_, next) => next,
-        Part::NoLine(_, next) => next,
-        Part::Refused(_) => State::new(),
-    }
-}
-
-// A text in parts of n bytes, by at most 2,048 calls; what a call did not take is offered again. The state behind them.
+// A text in parts of n bytes, by at most 2,048 calls; what a call did not take is offered again. The state behind them, which is a fresh
+// one behind 34, which no case gives.
 fn feed(text: &[u8], n: usize, hold: &mut [u8]) -> State {
     let mut state = State::new();
     let mut at = 0;
-    let mut left: u32 = 2048;
-    while 0 < left {
+    for turn in 0..2048 {
         if text.len() <= at {
             return state;
         }
         let rest = base_scan::part(text, at, text.len());
-        let answer = read_parts::take_part(state, hold, base_scan::part(rest, 0, size(n, left)));
+        let answer = read_parts::take_part(state, hold, base_scan::part(rest, 0, size(n, turn)));
         tell(answer, hold);
-        state = next(answer);
-        at += base_numbers::least(taken(answer), text.len() - at);
-        left -= 1;
+        let (next, taken) = match answer {
+            Ok(part) => (part.state, part.taken),
+            Err(_) => (State::new(), 0),
+        };
+        state = next;
+        at += taken.min(text.len() - at);
     }
     state
 }

@@ -1,5 +1,5 @@
 // Answers as text on standard output, each word with a space behind it.
-use base_buffer::Written;
+use base_buffer::WriteError;
 use base_scan::Place;
 
 pub fn word(s: &[u8]) {
@@ -17,19 +17,13 @@ pub fn number(n: u64) {
     io::write_all(1, b" ");
 }
 
-fn wide(b: u8) -> u64 {
-    b as u64
-}
-
 // A text in small hex digits; the empty one is `-`.
 pub fn hex(s: &[u8]) {
-    if s.len() == 0 {
+    if s.is_empty() {
         io::write_all(1, b"-");
     }
-    let mut i = 0;
-    while i < s.len() {
-        io::print_hex(1, wide(s[i]), 2);
-        i += 1;
+    for &b in s {
+        io::print_hex(1, b as u64, 2);
     }
     io::write_all(1, b" ");
 }
@@ -45,18 +39,22 @@ pub fn refused(n: u32) {
     number(n as u64)
 }
 
-// What a writer answered, `=` and the length or `!`, the number and for 22 the length needed; and the whole buffer.
-pub fn written(answer: Written, room: &[u8]) {
+// Why a writer wrote nothing: `!` and the number, and for 22 the length needed.
+pub fn unwritten(error: WriteError) {
+    refused(error.number());
+    if let WriteError::NoRoom(n) = error {
+        number(n as u64)
+    }
+}
+
+// What a writer answered, `=` and the length or why it wrote nothing; and the whole buffer.
+pub fn written(answer: Result<usize, WriteError>, room: &[u8]) {
     match answer {
-        Written::Done(n) => {
+        Ok(n) => {
             word(b"=");
             number(n as u64)
         }
-        Written::Refused(n) => refused(n),
-        Written::NoRoom(n) => {
-            word(b"! 22");
-            number(n as u64)
-        }
+        Err(error) => unwritten(error),
     }
     hex(room)
 }

@@ -4,47 +4,41 @@
 // safe and ends.
 #![tactic(auto)]
 
+use base_buffer::WriteError;
 use program_replay_words::{case, show};
-use read_judge::{Judged, Numbers};
-use read_record::Unfolded;
-use read_version::{GffVersion, Part};
+use read_judge::Numbers;
+use read_version::GffVersion;
 use write_directive::Value;
 
 // The largest buffer that a case lends.
 const ROOM: usize = 512;
 
 fn numbers(n: Numbers) {
-    let which = n.strand;
-    let shift = n.phase;
     show::number(n.start);
     show::number(n.end);
-    show::number(read_tokens::strand_number(which) as u64);
-    show::number(read_tokens::phase_number(shift) as u64)
+    show::number(read_tokens::strand_number(n.strand) as u64);
+    show::number(read_tokens::phase_number(n.phase) as u64)
 }
 
 // J LINE: the sheet's length, and start, end, strand and phase
 pub fn judge(text: &[u8]) {
     match read_judge::judge(text) {
-        Judged::Is(n, length) => {
+        Ok((n, length)) => {
             show::number(length as u64);
             numbers(n)
         }
-        Judged::Refused(n) => show::refused(n),
+        Err(refusal) => show::refused(refusal.number()),
     }
 }
 
-fn unfolded(answer: Unfolded) {
+fn unfolded(answer: Result<(Numbers, usize), WriteError>) {
     match answer {
-        Unfolded::Done(n, length) => {
+        Ok((n, length)) => {
             show::word(b"=");
             show::number(length as u64);
             numbers(n)
         }
-        Unfolded::Refused(n) => show::refused(n),
-        Unfolded::NoRoom(length) => {
-            show::word(b"! 22");
-            show::number(length as u64)
-        }
+        Err(error) => show::unwritten(error),
     }
 }
 
@@ -69,11 +63,8 @@ fn short(n: u64) -> u32 {
 }
 
 // A part of a version, where it is there.
-fn part(there: u64, n: u64) -> Part {
-    if there == 0 {
-        return Part::Absent;
-    }
-    Part::Is(short(n))
+fn part(there: u64, n: u64) -> Option<u32> {
+    if there == 0 { None } else { Some(short(n)) }
 }
 
 // The value that words 5 to 10 say: its kind, start or major, end, and whether there is a minor, the minor, and so for the patch.

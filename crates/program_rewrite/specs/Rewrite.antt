@@ -1,9 +1,10 @@
 -- What the rewriting program writes, RULES 13: records unfolded and written again, other lines as read, a refused line as `! ` and its
 -- number, each with a line feed. Assumes nothing: these are definitions.
-use Rattle.std.specs.Prelude.{ℕ, cond, List, [], ◌∷◌, ◌++◌, map, length}
+use Rattle.std.specs.Prelude.{ℕ, cond, Result, Ok, Err, List, [], ◌∷◌, ◌++◌, map, length}
 use Rattle.std.proofs.Math.Dec.{ltb}
 use Rattle.base_lists.specs.Bytes.{ascii}
-use Rattle.base_buffer.specs.Answer.{Reason, ◌when◌, refusal_of, unless}
+use Rattle.base_buffer.specs.declared.WriteError.{WriteError}
+use Rattle.base_buffer.specs.Answer.{Reason, refusal_of, answer, error_number}
 use Rattle.write_decimals.specs.Decimal.{decimal}
 use Rattle.read_kind.specs.declared.kind.Kind.{Kind}
 use Rattle.read_kind.specs.declared.kind.Kind.TheVariants.{Directive, Comment, Record}
@@ -29,29 +30,30 @@ sheet_from s = sheet_of (unfolded s)
 abbrev pub line_again : List ℕ → Numbers → List ℕ
 line_again sheet n = record_line sheet n.start n.end (strand_number n.strand) (phase_number n.phase)
 
--- the writer's reasons, and 22 where the line does not fit
-abbrev pub again_reasons : List ℕ → Numbers → List Reason
-again_reasons sheet n =
-    record_reasons sheet n.start n.end (strand_number n.strand) (phase_number n.phase)
-    ++ ((22 when ltb room (length (line_again sheet n))) ∷ [])
-
--- unfolding's reasons, and 22 where the sheet does not fit; then the writer's
-abbrev pub rewrite_reasons : List ℕ → List Reason
-rewrite_reasons s = unfold_reasons s ++ ((22 when ltb room (length (sheet_from s))) ∷ again_reasons (sheet_from s) (numbers_of s))
-
 -- ── what is written ──
 
 -- `! ` and its number
 abbrev pub refusal : ℕ → List ℕ
 refusal n = ascii "! " ++ decimal n
 
+-- what a writer of a text answers of one of the program's buffers: the first of the reasons, or 22 where the text does not fit
+abbrev pub answer_for : List Reason → List ℕ → Result ℕ WriteError
+answer_for reasons text = answer (refusal_of reasons) (ltb room (length text)) (length text)
+
+-- its refusal or, where it wrote the text, a line that is made of that
+abbrev pub refused_or : Result ℕ WriteError → List ℕ → List ℕ
+refused_or (Ok n) line = line
+refused_or (Err e) line = refusal (error_number e)
+
 -- for a sheet and its numbers
 unfoldable pub written_again : List ℕ → Numbers → List ℕ
-written_again sheet n = unless refusal (refusal_of (again_reasons sheet n)) (line_again sheet n)
+written_again sheet n =
+    refused_or (answer_for (record_reasons sheet n.start n.end (strand_number n.strand) (phase_number n.phase)) (line_again sheet n))
+    (line_again sheet n)
 
--- for a record
+-- for a record: unfolding's refusal, or what is written for its sheet
 unfoldable pub record_again : List ℕ → List ℕ
-record_again s = unless refusal (refusal_of (rewrite_reasons s)) (line_again (sheet_from s) (numbers_of s))
+record_again s = refused_or (answer_for (unfold_reasons s) (sheet_from s)) (written_again (sheet_from s) (numbers_of s))
 
 -- for a line of a kind
 abbrev pub rewritten_by : Kind → List ℕ → List ℕ

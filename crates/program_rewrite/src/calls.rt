@@ -1,48 +1,18 @@
 // Standard input read to its end and a text written to standard output, a call at a time.
 //
-// A call that a signal interrupts is tried again. A loop has to end, so the tries are counted down from a number that no run uses up.
+// A call that a signal interrupts is tried again. A loop has to end, so there are as many tries as no run uses up.
 // Where a call fails, a line on standard error says so and why.
-ghost use Rattle.std.specs.Prelude.{◌≤◌, ◌<◌, ◌≡◌, ◌^◌, length, pos, negsuc, IfOk, MatchResult};
+ghost use Rattle.std.specs.Prelude.{◌≤◌, ◌≡◌, length, MatchResult};
 ghost use Rattle.program_rewrite.specs.Calls.{outcome, Within};
 
 use crate::reason::Reason;
 use std::io::{Error, ErrorKind, Result};
-
-// What a read did, or several in a row.
-#[derive(Clone, Copy)]
-pub(crate) enum Read {
-    Failed,
-    // So many bytes came; of one read, none at the end of the input.
-    Got(usize),
-}
 
 // Says on standard error what failed, and why.
 fn fail(rt: &impl Eprint, what: &str, error: &Error) {
     let reason = Reason::of(error);
     let text = reason.text();
     let _ = eprintln!(rt; "{what}: {text}");
-}
-
-// A read's answer as C has it: how many bytes came, and -1 where it failed.
-fn number_of(answer: &Result<usize>) -> isize
-    requires { IfOk answer.now (λ n. n < 2 ^ 63) }
-    ensures { MatchResult answer.now (λ n. result ≡ pos n) (λ _. result ≡ negsuc 0) }
-{
-    match answer {
-        Ok(n) => *n as isize,
-        Err(_) => -1,
-    }
-}
-
-// What a read's answer means: a failure is no end of the input.
-fn outcome(answer: isize, buffer: &[u8]) -> Read
-    ensures value { result ≡ outcome answer (length buffer.now) }
-    ensures within { Within result (length buffer.now) }
-{
-    if answer < 0 {
-        return Read::Failed;
-    }
-    Read::Got(io::count(answer, buffer))
 }
 
 fn is_interrupted(answer: &Result<usize>) -> bool {
@@ -52,35 +22,44 @@ fn is_interrupted(answer: &Result<usize>) -> bool {
     }
 }
 
-// One read of standard input.
-fn read_some<I: std::io::Read>(rt: &impl Eprint, input: &mut I, buffer: &mut [u8]) -> Read
-    ensures { Within result (length buffer.old) }
+// How many bytes a read got, none at the end of the input; where it failed, which is said and is no end of the input, `None`.
+fn bytes_read(rt: &impl Eprint, answer: Result<usize>) -> Option<usize>
+    ensures { result ≡ outcome answer }
 {
-    let mut tries = u64::MAX;
-    loop {
-        let answer = input.read(buffer);
-        if tries == 0 || !is_interrupted(&answer) {
-            if let Err(error) = &answer {
-                fail(rt, "rewrite: standard input cannot be read", error);
-            }
-            return outcome(number_of(&answer), buffer);
+    match answer {
+        Ok(n) => Some(n),
+        Err(error) => {
+            fail(rt, "rewrite: standard input cannot be read", &error);
+            None
         }
-        tries -= 1;
     }
 }
 
-// One write to standard output: how many bytes it took, 0 where it failed.
+// One read of standard input; `None` where it failed.
+fn read_some<I: std::io::Read>(rt: &impl Eprint, input: &mut I, buffer: &mut [u8]) -> Option<usize>
+    ensures { Within result (length buffer.old) }
+{
+    for _ in 0..u64::MAX {
+        let answer = input.read(buffer);
+        if !is_interrupted(&answer) {
+            return bytes_read(rt, answer);
+        }
+    }
+    bytes_read(rt, input.read(buffer))
+}
+
+// One write to standard output: how many bytes it took, 0 where it failed. A write that takes none has failed too, so that an `Option`
+// would say no more.
 fn write_some(rt: &(impl Print + Eprint), text: &[u8]) -> usize
     ensures { result ≤ length text.now }
 {
-    let mut tries = u64::MAX;
-    loop {
+    for _ in 0..u64::MAX {
         let answer = rt.write_some(text);
-        if tries == 0 || !is_interrupted(&answer) {
+        if !is_interrupted(&answer) {
             return bytes_taken(rt, answer);
         }
-        tries -= 1;
     }
+    bytes_taken(rt, rt.write_some(text))
 }
 
 // How many bytes a write took; where it failed, which is said, 0.
@@ -96,21 +75,24 @@ fn bytes_taken(rt: &impl Eprint, answer: Result<usize>) -> usize
     0
 }
 
-// Reads standard input until it ends or the buffer is full.
-pub(crate) fn fill<I: std::io::Read>(rt: &impl Eprint, input: &mut I, buffer: &mut [u8]) -> Read
+// Reads standard input until it ends or the buffer is full: how many bytes came, `None` where a read failed. A step is as long as the
+// system makes it, so it is no `for`; so in `write_whole`.
+pub(crate) fn fill<I: std::io::Read>(
+    rt: &impl Eprint,
+    input: &mut I,
+    buffer: &mut [u8],
+) -> Option<usize>
     ensures { Within result (length buffer.new) }
 {
     let mut done = 0;
     while done < buffer.len() {
-        let Read::Got(n) = read_some(rt, input, &mut buffer[done..]) else {
-            return Read::Failed;
-        };
+        let n = read_some(rt, input, &mut buffer[done..])?;
         if n == 0 {
             break;
         }
         done += n;
     }
-    Read::Got(done)
+    Some(done)
 }
 
 // Writes the whole text to standard output, and answers whether it could.

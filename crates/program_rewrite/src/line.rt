@@ -1,14 +1,15 @@
 // One line, answered by way of a sheet buffer and a line buffer that are used anew.
 ghost use Rattle.std.specs.Prelude.{◌≡◌, length};
 ghost use Rattle.base_scan.specs.Part.{part};
+ghost use Rattle.base_buffer.specs.Answer.{error_number};
 ghost use Rattle.program_rewrite.specs.Rewrite.{refusal, written_again, record_again, line_rewritten};
 ghost use Rattle.program_rewrite.specs.Shown.{shown_for};
 
-use base_buffer::Written;
+use base_buffer::WriteError;
 use read_judge::Numbers;
 use read_kind::Kind;
-use read_record::Unfolded;
 
+// Which text is written for a line. An `Option` would not say that the line stays.
 #[derive(Clone, Copy)]
 pub(crate) enum Answer {
     // The line stays as it was read.
@@ -18,12 +19,12 @@ pub(crate) enum Answer {
 }
 
 // Lays a refusal: `! ` and its number.
-fn refuse(n: u32, out: &mut [u8]) -> usize
+fn refuse(error: WriteError, out: &mut [u8]) -> usize
     requires { length out.old ≡ 65536 }
-    ensures { part 0 result out.new ≡ refusal n }
+    ensures { part 0 result out.new ≡ refusal (error_number error) }
 {
     let at = base_buffer::lay(b"! ", out, 0);
-    write_decimals::lay_decimal(n as u64, out, at)
+    write_decimals::lay_decimal(error.number() as u64, out, at)
 }
 
 // Writes a sheet and its numbers again, or the writer's refusal.
@@ -36,9 +37,8 @@ fn write_again(sheet: &[u8], numbers: Numbers, out: &mut [u8]) -> usize
     let strand = read_tokens::strand_number(strand);
     let phase = read_tokens::phase_number(phase);
     match write_record::write_record(sheet, numbers.start, numbers.end, strand, phase, out) {
-        Written::Done(n) => n,
-        Written::Refused(n) => refuse(n, out),
-        Written::NoRoom(_) => refuse(22, out),
+        Ok(n) => n,
+        Err(error) => refuse(error, out),
     }
 }
 
@@ -48,9 +48,8 @@ fn rewrite_record(line: &[u8], sheet: &mut [u8], out: &mut [u8]) -> usize
     ensures { part 0 result out.new ≡ record_again line.now }
 {
     match read_record::unfold(line, sheet) {
-        Unfolded::Done(numbers, n) => write_again(base_scan::part(sheet, 0, n), numbers, out),
-        Unfolded::Refused(n) => refuse(n, out),
-        Unfolded::NoRoom(_) => refuse(22, out),
+        Ok((numbers, n)) => write_again(base_scan::part(sheet, 0, n), numbers, out),
+        Err(error) => refuse(error, out),
     }
 }
 

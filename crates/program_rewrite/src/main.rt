@@ -14,8 +14,7 @@ mod reason;
 
 ghost use Rattle.std.specs.Prelude.{◌≡◌, length};
 
-use calls::Read;
-use read_lines::{Cursor, Next};
+use read_lines::Cursor;
 
 // One line answered; whether it could be written.
 fn turn(rt: &(impl Print + Eprint), line: &[u8], sheet: &mut [u8], out: &mut [u8]) -> bool
@@ -33,23 +32,18 @@ fn rewrite(rt: &(impl Print + Eprint), text: &[u8], sheet: &mut [u8], out: &mut 
     requires { (length sheet.old ≡ 65536) × (length out.old ≡ 65536) }
 {
     let mut cursor = Cursor::new();
-    loop {
-        match read_lines::next_line(text, cursor) {
-            Next::Line(place, next) => {
-                if !turn(rt, base_scan::text(text, place), sheet, out) {
-                    return;
-                }
-                cursor = next;
-            }
-            Next::Done => return,
+    while let Some((place, next)) = read_lines::next_line(text, cursor) {
+        if !turn(rt, base_scan::text(text, place), sheet, out) {
+            return;
         }
+        cursor = next;
     }
 }
 
 // Whether more follows n bytes that were read: one byte, or none. Nothing is read behind the end, where a terminal would wait again.
-fn further<I: std::io::Read>(rt: &impl Eprint, input: &mut I, n: usize) -> Read {
+fn further<I: std::io::Read>(rt: &impl Eprint, input: &mut I, n: usize) -> Option<usize> {
     if n < 65536 {
-        return Read::Got(0);
+        return Some(0);
     }
     let mut byte = [0u8; 1];
     calls::fill(rt, input, &mut byte)
@@ -58,10 +52,10 @@ fn further<I: std::io::Read>(rt: &impl Eprint, input: &mut I, n: usize) -> Read 
 fn main(rt: HostRuntime) {
     let mut text: [u8; 65536] = [0; 65536];
     let mut input = rt.stdin();
-    let Read::Got(n) = calls::fill(&rt, &mut input, &mut text) else {
+    let Some(n) = calls::fill(&rt, &mut input, &mut text) else {
         return;
     };
-    let Read::Got(more) = further(&rt, &mut input, n) else {
+    let Some(more) = further(&rt, &mut input, n) else {
         return;
     };
     if 0 < more {

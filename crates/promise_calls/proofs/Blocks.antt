@@ -5,6 +5,7 @@ use Rattle.base_buffer.proofs.AnswerLaws.{lays_one}
 use Rattle.base_scan.proofs as base_scan
 use Rattle.base_words.proofs as base_words
 use Rattle.base_numbers.proofs as base_numbers
+use Rattle.base_refusals.proofs as base_refusals
 use Rattle.base_buffer.proofs as base_buffer
 use Rattle.read_numbers.proofs as read_numbers
 use Rattle.write_decimals.proofs as write_decimals
@@ -39,7 +40,8 @@ blocks =
       find_ink = first (λ _ (s, _) left r. r ≤ length s.now) (λ M. base_words.find_ink.Met.met);
       next_word = told (λ M. base_words.next_word.Met.met);
       least = told (λ M. base_numbers.least.Met.met);
-      either = told (λ M. base_numbers.either.Met.met);
+      refusal_number = told (λ M. base_refusals.Refusal.number.Met.met);
+      error_number = told (λ M. base_buffer.WriteError.number.Met.met);
       lay_byte = record { does = λ M. base_buffer.lay_byte.Met.met; one = lays_one };
       lay = record { does = λ M. base_buffer.lay.Met.met; one = lays_one };
       lay_decimal = record { does = λ M. write_decimals.lay_decimal.Met.met; one = lays_one };

@@ -70,11 +70,11 @@ calls =
       find_tag = told (λ M. read_lookup.find_tag.Met.met);
       value_or = told (λ M. read_lookup.value_or.Met.met);
       walk_over = follows (λ _ (column, _) left r. (r.column ≡ column) × (r.at ≡ 0)) (λ _ a left r p. ap₂ walker p.0 p.1)
-          (λ M. read_walker.walk_over.Met.met);
-      next = told (λ M. read_walker.next.Met.met);
+          (λ M. read_walker.Attributes.walk_over.Met.met);
+      next = told (λ M. read_walker.Attributes.next.Met.met);
       moved = follows (λ _ (walker, (at, _)) left r. (r.column ≡ walker.column) × (r.at ≡ at)) (λ _ a left r p. ap₂ walker p.0 p.1)
-          (λ M. read_walker.moved.Met.met);
-      get = told (λ M. read_walker.get.Met.met);
+          (λ M. read_walker.Attributes.moved.Met.met);
+      get = told (λ M. read_walker.Attributes.get.Met.met);
       first_field = told (λ M. read_walker.first_field.Met.met);
       decode = record { does = λ M. percent_decode.decode.Met.met; one = wrote_one };
       encode = record { does = λ M. percent_encode.encode.Met.met; one = wrote_one };

@@ -1,42 +1,24 @@
 -- A refused call hands out no field: each answer of the library, a case at a time. Assumes nothing.
 use Prim.Native.Nat.{ℕ, zero, suc}
 use native.Mathlib.Omega.{arith}
+use Rattle.std.specs.Prelude.{Option, Some, None, Ok, Err}
 use mathlib.Core.Path.{◌≡◌, refl}
 use mathlib.Core.Logic.{◌≢◌}
 use mathlib.Core.List.{List, [], ◌∷◌}
 use lib.Dec.{ltb}
 use lib.ListN.{replicate}
 use Rattle.base_lists.proofs.BoolLaws.{by_test}
-use Rattle.base_buffer.specs.declared.Written.TheVariants as written
+use Rattle.base_scan.specs.declared.place.Place.{Place}
+use Rattle.base_buffer.specs.declared.WriteError.TheVariants.{Refused, NoRoom}
 use Rattle.base_buffer.specs.Answer.{number, needed}
 use Rattle.read_numbers.specs.Number.{most64}
-use Rattle.read_lines.specs.declared.Next.TheVariants as line
 use Rattle.read_lines.specs.Lines.{lines}
-use Rattle.read_parts.specs.declared.Part.TheVariants as lines_part
-use Rattle.read_kind.specs.declared.comment.CommentText.TheVariants as comment
-use Rattle.read_kind.specs.declared.directive.DirectiveText.TheVariants as directive
-use Rattle.read_kind.specs.declared.directive.ValueText.TheVariants as text
-use Rattle.read_tokens.specs.declared.position.PositionRead.TheVariants as position
-use Rattle.read_tokens.specs.declared.strand.StrandRead.TheVariants as strand
-use Rattle.read_tokens.specs.declared.phase.PhaseRead.TheVariants as phase
-use Rattle.read_columns.specs.declared.bounds.Indexed.TheVariants as index
-use Rattle.read_columns.specs.declared.column.ColumnRead.TheVariants as place
-use Rattle.read_fields.specs.declared.score.ScoreRead.TheVariants as score
-use Rattle.read_fields.specs.declared.record.Score.TheVariants as score_in
-use Rattle.read_fields.specs.declared.record.Score.{Score}
-use Rattle.read_fields.specs.declared.record.RecordRead.TheVariants as whole
-use Rattle.read_values.specs.declared.NextValue.TheVariants as value
-use Rattle.read_attributes.specs.declared.field.Step.TheVariants as field
-use Rattle.read_lookup.specs.declared.Found.TheVariants as found
-use Rattle.read_version.specs.declared.Part.{Part}
-use Rattle.read_version.specs.declared.Part.TheVariants as part
-use Rattle.read_version.specs.declared.VersionRead.TheVariants as version
-use Rattle.read_directives.specs.declared.sequence_region.RegionRead.TheVariants as region
-use Rattle.read_directives.specs.declared.genome_build.BuildRead.TheVariants as build
-use Rattle.read_judge.specs.declared.judging.Judged.TheVariants as judge
-use Rattle.read_record.specs.declared.lay.Unfolded.TheVariants as unfolded
+use Rattle.read_parts.specs.declared.Came.{Came}
+use Rattle.read_parts.specs.declared.Came.TheVariants as came
+use Rattle.read_parts.specs.Calls.{came_refusal}
 use Rattle.read_report.specs.Report.{nothing, counted, morning}
-use Rattle.c_lines.specs.Line.{c_directive}
+use Rattle.c_lines.specs.Line.{c_key_value, c_directive}
+use Rattle.c_parts.specs.Part.{has_line, line_length}
 use Rattle.c_directives.specs.Directive.{c_parts}
 use Rattle.c_record.specs.Record.{score_missing, score_start, score_end}
 use Rattle.c_report.specs.Report.{c_morning}
@@ -47,27 +29,43 @@ zeros : (n : ℕ) → Zeros (replicate n 0)
 zeros zero = tt
 zeros (suc n) = (refl, zeros n)
 
+-- what came of a line of a text in parts
+came_refused : (x : Came) → came_refusal x ≢ 0 → Zeros (has_line x ∷ line_length x ∷ [])
+came_refused (came.Line n) h = absurd (h refl)
+came_refused came.TooLong h = zeros 2
+came_refused came.NoLine h = absurd (h refl)
+
+came_number : (x : Came) → came_refusal x ≢ 0 → came_refusal x ≢ 25 → ⊥
+came_number (came.Line n) h k = h refl
+came_number came.TooLong h k = k refl
+came_number came.NoLine h k = h refl
+
+came_no_line : (x : Came) → has_line x ≡ 0 → Zeros (line_length x ∷ [])
+came_no_line (came.Line n) h = absurd (omega arith)
+came_no_line came.TooLong h = zeros 1
+came_no_line came.NoLine h = zeros 1
+
 -- the parts of a version, a case at a time
 module _ (refused major : ℕ) where
-  parts_refused : (minor patch : Part) → (c_parts refused major minor patch).refused ≡ refused
-  parts_refused part.Absent patch = refl
-  parts_refused (part.Is minor) part.Absent = refl
-  parts_refused (part.Is minor) (part.Is patch) = refl
+  parts_refused : (minor patch : Option ℕ) → (c_parts refused major minor patch).refused ≡ refused
+  parts_refused None patch = refl
+  parts_refused (Some minor) None = refl
+  parts_refused (Some minor) (Some patch) = refl
 
-  minor_absent : (minor patch : Part) → let r = c_parts refused major minor patch in r.parts ≡ 1 → Zeros (r.minor ∷ r.patch ∷ [])
-  minor_absent part.Absent patch h = zeros 2
-  minor_absent (part.Is minor) part.Absent h = absurd (omega arith)
-  minor_absent (part.Is minor) (part.Is patch) h = absurd (omega arith)
+  minor_absent : (minor patch : Option ℕ) → let r = c_parts refused major minor patch in r.parts ≡ 1 → Zeros (r.minor ∷ r.patch ∷ [])
+  minor_absent None patch h = zeros 2
+  minor_absent (Some minor) None h = absurd (omega arith)
+  minor_absent (Some minor) (Some patch) h = absurd (omega arith)
 
-  patch_absent : (minor patch : Part) → let r = c_parts refused major minor patch in r.parts ≡ 2 → Zeros (r.patch ∷ [])
-  patch_absent part.Absent patch h = absurd (omega arith)
-  patch_absent (part.Is minor) part.Absent h = zeros 1
-  patch_absent (part.Is minor) (part.Is patch) h = absurd (omega arith)
+  patch_absent : (minor patch : Option ℕ) → let r = c_parts refused major minor patch in r.parts ≡ 2 → Zeros (r.patch ∷ [])
+  patch_absent None patch h = absurd (omega arith)
+  patch_absent (Some minor) None h = zeros 1
+  patch_absent (Some minor) (Some patch) h = absurd (omega arith)
 
 -- a score that is missing has no place
-no_place : (x : Score) → score_missing x ≢ 0 → Zeros (score_start x ∷ score_end x ∷ [])
-no_place score_in.Missing h = zeros 2
-no_place (score_in.Token place) h = absurd (h refl)
+no_place : (x : Option Place) → score_missing x ≢ 0 → Zeros (score_start x ∷ score_end x ∷ [])
+no_place None h = zeros 2
+no_place (Some place) h = absurd (h refl)
 
 -- a refused report counts nothing
 report_refused : (s : List ℕ) → (c_morning (morning s)).refused ≢ 0 → Zeros (counts (c_morning (morning s)))
@@ -78,116 +76,102 @@ report_refused s =
 
 -- of a directive, its value, and itself
 value_absent : Bare c_directive (λ r. r.has_value ≡ 0) (λ r. r.value_start ∷ r.value_end ∷ [])
-value_absent (directive.Is key (text.At p)) h = absurd (omega arith)
-value_absent (directive.Is key text.Absent) h = zeros 2
-value_absent directive.NotOne h = zeros 2
+value_absent (Some d) h = of_value d.value h
+  where
+    of_value : (value : Option Place) → let r = c_key_value d.key value in r.has_value ≡ 0 → Zeros (r.value_start ∷ r.value_end ∷ [])
+    of_value (Some p) h = absurd (omega arith)
+    of_value None h = zeros 2
+value_absent None h = zeros 2
 
 no_directive : Bare c_directive (λ r. r.is ≡ 0) (λ r. r.key_start ∷ r.key_end ∷ r.has_value ∷ r.value_start ∷ r.value_end ∷ [])
-no_directive (directive.Is key (text.At p)) h = absurd (omega arith)
-no_directive (directive.Is key text.Absent) h = absurd (omega arith)
-no_directive directive.NotOne h = zeros 5
+no_directive (Some d) h = of_value d.value h
+  where
+    of_value : (value : Option Place) → let r = c_key_value d.key value in r.is ≡ 0
+        → Zeros (r.key_start ∷ r.key_end ∷ r.has_value ∷ r.value_start ∷ r.value_end ∷ [])
+    of_value (Some p) h = absurd (omega arith)
+    of_value None h = absurd (omega arith)
+no_directive None h = zeros 5
 
 pub no_field : NoField
-unfolding number needed
 no_field =
     record {
-      position = elim [ position.Is n ↦ λ h. absurd (h refl) | position.Refused n ↦ λ h. zeros 1 ];
-      strand = elim [ strand.Is s ↦ λ h. absurd (h refl) | strand.Refused n ↦ λ h. zeros 1 ];
-      phase = elim [ phase.Is p ↦ λ h. absurd (h refl) | phase.Refused n ↦ λ h. zeros 1 ];
+      position = elim [ Ok n ↦ λ h. absurd (h refl) | Err r ↦ λ h. zeros 1 ];
+      strand = elim [ Ok s ↦ λ h. absurd (h refl) | Err r ↦ λ h. zeros 1 ];
+      phase = elim [ Ok p ↦ λ h. absurd (h refl) | Err r ↦ λ h. zeros 1 ];
       score =
           elim [
-            | score.Missing ↦ λ h. absurd (h refl)
-            | score.Token p ↦ λ h. absurd (h refl)
-            | score.Refused n ↦ λ h. zeros 3
+            | Ok None ↦ λ h. absurd (h refl)
+            | Ok (Some p) ↦ λ h. absurd (h refl)
+            | Err r ↦ λ h. zeros 3
           ];
-      index = elim [ index.At b ↦ λ h. absurd (h refl) | index.Refused ↦ λ h. zeros 8 ];
-      place = elim [ place.At p ↦ λ h. absurd (h refl) | place.Refused ↦ λ h. zeros 2 ];
-      whole = elim [ whole.Is r ↦ λ h. absurd (h refl) | whole.Refused n ↦ λ h. zeros 15 ];
+      index = elim [ Ok b ↦ λ h. absurd (h refl) | Err r ↦ λ h. zeros 8 ];
+      place = elim [ Ok p ↦ λ h. absurd (h refl) | Err r ↦ λ h. zeros 2 ];
+      whole = elim [ Ok r ↦ λ h. absurd (h refl) | Err e ↦ λ h. zeros 15 ];
       field = λ here.
           elim [
-            | field.Is f ↦ λ h. absurd (h refl)
-            | field.Done ↦ λ h. absurd (h refl)
-            | field.Refused ↦ λ h. zeros 5
+            | Ok (Some f) ↦ λ h. absurd (h refl)
+            | Ok None ↦ λ h. absurd (h refl)
+            | Err r ↦ λ h. zeros 5
           ];
-      found = elim [ found.At p ↦ λ h. absurd (h refl) | found.Absent ↦ λ h. absurd (h refl) | found.Refused ↦ λ h. zeros 3 ];
-      part = λ was. elim [
-        | lines_part.Line n taken s ↦ λ h. absurd (h refl)
-        | lines_part.TooLong taken s ↦ λ h. zeros 2
-        | lines_part.NoLine taken s ↦ λ h. absurd (h refl)
-        | lines_part.Refused n ↦ λ h. zeros 2
-      ];
-      part_state = λ was. elim [
-        | lines_part.Line n taken s ↦ λ h k. absurd (h refl)
-        | lines_part.TooLong taken s ↦ λ h k. absurd (k refl)
-        | lines_part.NoLine taken s ↦ λ h k. absurd (h refl)
-        | lines_part.Refused n ↦ λ h k. refl
-      ];
-      part_taken = λ was. elim [
-        | lines_part.Line n taken s ↦ λ h. absurd (h.0 refl)
-        | lines_part.TooLong taken s ↦ λ h. absurd (h.1 refl)
-        | lines_part.NoLine taken s ↦ λ h. absurd (h.0 refl)
-        | lines_part.Refused n ↦ λ h. zeros 1
-      ];
+      found = elim [ Ok (Some p) ↦ λ h. absurd (h refl) | Ok None ↦ λ h. absurd (h refl) | Err r ↦ λ h. zeros 3 ];
+      part = λ was. elim [ Ok p ↦ came_refused p.came | Err r ↦ λ h. zeros 2 ];
+      part_state = λ was. elim [ Ok p ↦ λ h k. absurd (came_number p.came h k) | Err r ↦ λ h k. refl ];
+      part_taken = λ was. elim [ Ok p ↦ λ h. absurd (came_number p.came h.0 h.1) | Err r ↦ λ h. zeros 1 ];
       version =
           elim [
-            | version.Is v ↦ λ h. absurd (h (parts_refused 0 v.major v.minor v.patch))
-            | version.Refused n ↦ λ h. zeros 4
+            | Ok v ↦ λ h. absurd (h (parts_refused 0 v.major v.minor v.patch))
+            | Err r ↦ λ h. zeros 4
           ];
-      region = elim [ region.Is r ↦ λ h. absurd (h refl) | region.Refused n ↦ λ h. zeros 4 ];
-      build = elim [ build.Is b ↦ λ h. absurd (h refl) | build.Refused n ↦ λ h. zeros 4 ];
-      judged = elim [ judge.Is numbers n ↦ λ h. absurd (h refl) | judge.Refused n ↦ λ h. zeros 5 ];
+      region = elim [ Ok r ↦ λ h. absurd (h refl) | Err e ↦ λ h. zeros 4 ];
+      build = elim [ Ok b ↦ λ h. absurd (h refl) | Err e ↦ λ h. zeros 4 ];
+      judged = elim [ Ok (numbers, n) ↦ λ h. absurd (h refl) | Err r ↦ λ h. zeros 5 ];
       unfolded =
           elim [
-            | unfolded.Done numbers n ↦ λ h. absurd (h refl)
-            | unfolded.Refused n ↦ λ h. zeros 4
-            | unfolded.NoRoom n ↦ λ h. zeros 4
+            | Ok (numbers, n) ↦ λ h. absurd (h refl)
+            | Err (Refused r) ↦ λ h. zeros 4
+            | Err (NoRoom n) ↦ λ h. zeros 4
           ];
       unfolded_length =
           elim [
-            | unfolded.Done numbers n ↦ λ h. absurd (h.0 refl)
-            | unfolded.Refused n ↦ λ h. zeros 1
-            | unfolded.NoRoom n ↦ λ h. absurd (h.1 refl)
+            | Ok (numbers, n) ↦ λ h. absurd (h.0 refl)
+            | Err (Refused r) ↦ λ h. zeros 1
+            | Err (NoRoom n) ↦ λ h. absurd (h.1 refl)
           ];
       report = report_refused;
       written_length =
           elim [
-            | written.Done n ↦ λ h. absurd (h.0 refl)
-            | written.Refused n ↦ λ h. zeros 1
-            | written.NoRoom n ↦ λ h. absurd (h.1 refl)
+            | Ok n ↦ λ h. absurd (h.0 refl)
+            | Err (Refused r) ↦ λ h. zeros 1
+            | Err (NoRoom n) ↦ λ h. absurd (h.1 refl)
           ];
-      line_done = λ here. elim [ line.Line p c ↦ λ h. absurd (h refl) | line.Done ↦ λ h. zeros 2 ];
+      line_done = λ here. elim [ Some (p, c) ↦ λ h. absurd (h refl) | None ↦ λ h. zeros 2 ];
       field_done = λ here.
           elim [
-            | field.Is f ↦ λ h. absurd (h refl)
-            | field.Done ↦ λ h. zeros 5
-            | field.Refused ↦ λ h. absurd (h refl)
+            | Ok (Some f) ↦ λ h. absurd (h refl)
+            | Ok None ↦ λ h. zeros 5
+            | Err r ↦ λ h. absurd (h refl)
           ];
-      value_done = λ here. elim [ value.Is p c ↦ λ h. absurd (h refl) | value.Done ↦ λ h. zeros 2 ];
-      whole_score_missing = elim [ whole.Is r ↦ no_place r.score | whole.Refused n ↦ λ h. absurd (h refl) ];
+      value_done = λ here. elim [ Some (p, c) ↦ λ h. absurd (h refl) | None ↦ λ h. zeros 2 ];
+      whole_score_missing = elim [ Ok r ↦ no_place r.score | Err e ↦ λ h. absurd (h refl) ];
       score_missing =
           elim [
-            | score.Missing ↦ λ h. zeros 2
-            | score.Token p ↦ λ h. absurd (h refl)
-            | score.Refused n ↦ λ h. zeros 2
+            | Ok None ↦ λ h. zeros 2
+            | Ok (Some p) ↦ λ h. absurd (h refl)
+            | Err r ↦ λ h. zeros 2
           ];
-      tag_absent = elim [ found.At p ↦ λ h. absurd (omega arith) | found.Absent ↦ λ h. zeros 2 | found.Refused ↦ λ h. zeros 2 ];
+      tag_absent = elim [ Ok (Some p) ↦ λ h. absurd (omega arith) | Ok None ↦ λ h. zeros 2 | Err r ↦ λ h. zeros 2 ];
       minor_absent =
           elim [
-            | version.Is v ↦ minor_absent 0 v.major v.minor v.patch
-            | version.Refused n ↦ λ h. zeros 2
+            | Ok v ↦ minor_absent 0 v.major v.minor v.patch
+            | Err r ↦ λ h. zeros 2
           ];
       patch_absent =
           elim [
-            | version.Is v ↦ patch_absent 0 v.major v.minor v.patch
-            | version.Refused n ↦ λ h. zeros 1
+            | Ok v ↦ patch_absent 0 v.major v.minor v.patch
+            | Err r ↦ λ h. zeros 1
           ];
       value_absent = value_absent;
-      no_line = λ was. elim [
-        | lines_part.Line n taken s ↦ λ h. absurd (omega arith)
-        | lines_part.TooLong taken s ↦ λ h. zeros 1
-        | lines_part.NoLine taken s ↦ λ h. zeros 1
-        | lines_part.Refused n ↦ λ h. zeros 1
-      ];
-      no_comment = elim [ comment.At p ↦ λ h. absurd (omega arith) | comment.NotOne ↦ λ h. zeros 2 ];
+      no_line = λ was. elim [ Ok p ↦ came_no_line p.came | Err r ↦ λ h. zeros 1 ];
+      no_comment = elim [ Some p ↦ λ h. absurd (omega arith) | None ↦ λ h. zeros 2 ];
       no_directive = no_directive;
     }

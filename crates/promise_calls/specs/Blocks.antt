@@ -1,11 +1,13 @@
 -- The building blocks, which docs/PROMISES.md lists: public functions that other crates call, and that are no calls of the rules. Each is
 -- tied to its definition, as in specs/Calls.antt. Assumes nothing: these are definitions.
-use Rattle.std.specs.Prelude.{[], ◌∷◌, cond, length, take, min, ◌-◌, ◌^◌}
+use Rattle.std.specs.Prelude.{[], ◌∷◌, length, take, min, ◌-◌, ◌^◌}
 use Rattle.base_scan.specs.Find.{found, found_two, found_on, found_last}
 use Rattle.base_scan.specs.Mask.{mask}
 use Rattle.base_scan.specs.Part.{part, text_at}
 use Rattle.base_words.specs.Same.{same, is_dot}
 use Rattle.base_words.specs.Word as word
+use Rattle.base_refusals.specs.Refusal as refusals
+use Rattle.base_buffer.specs.Answer.{error_number}
 use Rattle.base_buffer.specs.Laid.{Lays}
 use Rattle.read_numbers.specs.Number as number
 use Rattle.write_decimals.specs.Decimal.{decimal}
@@ -23,6 +25,7 @@ use Rattle.c_answers.specs.Answers.{bounds_of_c, c_bounds, no_bounds, c_position
 use Rattle.base_scan.specs.contracts as base_scan_contracts
 use Rattle.base_words.specs.contracts as base_words_contracts
 use Rattle.base_numbers.specs.contracts as base_numbers_contracts
+use Rattle.base_refusals.specs.contracts as base_refusals_contracts
 use Rattle.base_buffer.specs.contracts as base_buffer_contracts
 use Rattle.read_numbers.specs.contracts as read_numbers_contracts
 use Rattle.write_decimals.specs.contracts as write_decimals_contracts
@@ -40,6 +43,7 @@ use Rattle.c_answers.specs.contracts as c_answers_contracts
 use Rattle.base_scan.proofs as base_scan
 use Rattle.base_words.proofs as base_words
 use Rattle.base_numbers.proofs as base_numbers
+use Rattle.base_refusals.proofs as base_refusals
 use Rattle.base_buffer.proofs as base_buffer
 use Rattle.read_numbers.proofs as read_numbers
 use Rattle.write_decimals.proofs as write_decimals
@@ -87,8 +91,12 @@ pub record Blocks : Type 2 where
   -- numbers
   pub least : Gives base_numbers_contracts.least.ended base_numbers.least.Symbol.name base_numbers.least.Symbol.code
       (λ _ (a, (b, _)). min a b)
-  pub either : Gives base_numbers_contracts.either.ended base_numbers.either.Symbol.name base_numbers.either.Symbol.code
-      (λ _ (test, (number, (other, _))). cond test number other)
+  pub refusal_number : Gives base_refusals_contracts.Refusal.number.ended
+      base_refusals.Refusal.number.Symbol.name base_refusals.Refusal.number.Symbol.code
+      (λ _ (reason, _). refusals.number reason)
+  pub error_number : Gives base_buffer_contracts.WriteError.number.ended
+      base_buffer.WriteError.number.Symbol.name base_buffer.WriteError.number.Symbol.code
+      (λ _ (error, _). error_number error)
   -- pieces laid over a buffer
   pub lay_byte : Fills base_buffer_contracts.lay_byte.ended
       base_buffer.lay_byte.Symbol.name base_buffer.lay_byte.Symbol.code (λ _ (_, (out, _)). out.now)

@@ -3,7 +3,7 @@
 -- caller, is refused at its line. In each λ first come the lifetimes of what is lent, `_`, and then the arguments; where a buffer is lent,
 -- the first λ says which argument it is. Assumes nothing: these are definitions.
 use Rattle.std.specs.Prelude.{[]}
-use Rattle.base_buffer.specs.Answer.{refusal_of, Wrote}
+use Rattle.base_buffer.specs.Answer.{refusal_of, unless, Wrote}
 use Rattle.write_decimals.specs.Decimal.{decimal}
 use Rattle.percent_coding.specs.Percent.{decoded, encoded}
 use Rattle.percent_sets.specs.Sets.{escapes}
@@ -152,13 +152,13 @@ pub record Calls : Type 2 where
       (λ _ (column, (tag, _)). lookup.find_tag column.now tag.now)
   pub value_or : Shows read_lookup_contracts.value_or.ended read_lookup.value_or.Symbol.name read_lookup.value_or.Symbol.code (λ _ r. r.now)
       (λ _ (column, (tag, (fallback, _))). lookup.value_or column.now tag.now fallback.now)
-  pub walk_over : Gives read_walker_contracts.walk_over.ended read_walker.walk_over.Symbol.name read_walker.walk_over.Symbol.code
+  pub walk_over : Gives read_walker_contracts.Attributes.walk_over.ended read_walker.Attributes.walk_over.Symbol.name read_walker.Attributes.walk_over.Symbol.code
       (λ _ (column, _). record { column = column; at = 0 })
-  pub next : Gives read_walker_contracts.next.ended read_walker.next.Symbol.name read_walker.next.Symbol.code
+  pub next : Gives read_walker_contracts.Attributes.next.ended read_walker.Attributes.next.Symbol.name read_walker.Attributes.next.Symbol.code
       (λ _ (walker, _). column9.next_field walker.column.now walker.at)
-  pub moved : Gives read_walker_contracts.moved.ended read_walker.moved.Symbol.name read_walker.moved.Symbol.code
+  pub moved : Gives read_walker_contracts.Attributes.moved.ended read_walker.Attributes.moved.Symbol.name read_walker.Attributes.moved.Symbol.code
       (λ _ (walker, (at, _)). record { column = walker.column; at = at })
-  pub get : Gives read_walker_contracts.get.ended read_walker.get.Symbol.name read_walker.get.Symbol.code
+  pub get : Gives read_walker_contracts.Attributes.get.ended read_walker.Attributes.get.Symbol.name read_walker.Attributes.get.Symbol.code
       (λ _ (walker, (tag, _)). lookup.find_tag walker.column.now tag.now)
   pub first_field : Gives read_walker_contracts.first_field.ended read_walker.first_field.Symbol.name read_walker.first_field.Symbol.code
       (λ _ (column, _). column9.next_field column.now 0)
@@ -186,7 +186,7 @@ pub record Calls : Type 2 where
   pub measure : Gives write_measure_contracts.measure.ended write_measure.measure.Symbol.name write_measure.measure.Symbol.code
       (λ _ (sheet, (start, (end, (strand, (phase, _))))). measured sheet.now start end strand phase)
   pub refusal : Gives write_measure_contracts.refusal.ended write_measure.refusal.Symbol.name write_measure.refusal.Symbol.code
-      (λ _ (sheet, (start, (end, (strand, (phase, _))))). refusal_of (record_reasons sheet.now start end strand phase))
+      (λ _ (sheet, (start, (end, (strand, (phase, _))))). unless (refusal_of (record_reasons sheet.now start end strand phase)) (tt {0}))
   pub write_record : Fills write_record_contracts.write_record.ended
       write_record.write_record.Symbol.name write_record.write_record.Symbol.code
       (λ _ (_, (_, (_, (_, (_, (out, _)))))). out.now)

@@ -2,11 +2,12 @@
 -- `length` with 22, which is the length needed, the cursor `next` of the walk over column 9, and what carries a text in parts on: the bytes
 -- taken with 25, and the state. Where an answer says that a walk is done, or that something is missing, absent or not of the kind, the
 -- numbers that would hold it are 0. Assumes nothing: these are definitions.
-use Rattle.std.specs.Prelude.{ℕ, ◌≡◌, ◌≢◌, List, [], ◌∷◌}
+use Rattle.std.specs.Prelude.{ℕ, ◌≡◌, ◌≢◌, Result, List, [], ◌∷◌}
 use Rattle.base_lists.specs.Bytes.{Every}
 use Rattle.c_answers.specs.declared.Gff3Bounds.{Gff3Bounds}
 use Rattle.c_answers.specs.Answers.{c_position, c_written}
 use Rattle.c_lines.specs.Line.{c_line, c_comment, c_directive}
+use Rattle.base_refusals.specs.declared.Refusal.{Refusal}
 use Rattle.read_parts.specs.declared.Part.{Part}
 use Rattle.c_parts.specs.declared.Gff3State.{Gff3State}
 use Rattle.c_parts.specs.Part.{c_part}
@@ -60,7 +61,7 @@ pub record NoField : Type 0 where
   pub part : (was : Gff3State) → Bare (c_part was) (λ r. r.refused ≢ 0) (λ r. r.has_line ∷ r.length ∷ [])
   pub part_taken : (was : Gff3State) → Bare (c_part was) (λ r. (r.refused ≢ 0) × (r.refused ≢ 25)) (λ r. r.taken ∷ [])
   -- and the state is the one handed in
-  pub part_state : (was : Gff3State) (answer : Part) → (c_part was answer).refused ≢ 0 → (c_part was answer).refused ≢ 25
+  pub part_state : (was : Gff3State) (answer : Result Part Refusal) → (c_part was answer).refused ≢ 0 → (c_part was answer).refused ≢ 25
       → (c_part was answer).state ≡ was
   pub version : Bare c_version (λ r. r.refused ≢ 0) (λ r. r.parts ∷ r.major ∷ r.minor ∷ r.patch ∷ [])
   pub region : Bare c_region (λ r. r.refused ≢ 0) (λ r. r.name_start ∷ r.name_end ∷ r.start ∷ r.end ∷ [])

@@ -34,7 +34,7 @@ use Rattle.read_verdict.proofs.VerdictLaws.{sound as verdict_sound}
 use Rattle.read_report.proofs.AddLaws.{power_is}
 use Rattle.read_report.proofs.SumLaws.{adds_up, passed, not_passed}
 use Rattle.promise_demands.specs.Demand.{Demand1, Demand2, Demand3, Counts, gff3, HandsOut, whole_text, in_parts}
-use Rattle.promise_demands.proofs.AnswerLaws.{writes, item_numbered, unfold_answers, take_part_answers, end_parts_answers, no_fields}
+use Rattle.promise_demands.proofs.AnswerLaws.{writes, unfold_answers, take_part_answers, end_parts_answers, no_fields}
 use Rattle.promise_demands.proofs.ItemLaws.{sound, done_accepted, again_accepted}
 use Rattle.promise_survival.proofs.Stretch.{survival}
 
@@ -45,11 +45,11 @@ demand1 =
       calls = calls;
       blocks = blocks;
       in_c = in_c;
-      write = λ i. writes (reasons_of i) (line_of i) (item_numbered i);
-      encode = λ set s. writes (encode_reasons s) (encoded (escapes set) s) (omega arith, tt);
-      decode = λ s. writes [] (decoded s) tt;
-      write_decimal = λ n. writes [] (decimal n) tt;
-      text = λ c line b. writes (text_reasons line b) (decoded (column_text c line)) (omega arith, tt);
+      write = λ i. writes (reasons_of i) (line_of i);
+      encode = λ set s. writes (encode_reasons s) (encoded (escapes set) s);
+      decode = λ s. writes [] (decoded s);
+      write_decimal = λ n. writes [] (decimal n);
+      text = λ c line b. writes (text_reasons line b) (decoded (column_text c line));
       count = count_refused;
       section = section_refused;
       unfolds = unfold_answers;

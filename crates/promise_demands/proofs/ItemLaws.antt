@@ -4,8 +4,8 @@ use Prim.Native.Nat.{ℕ}
 use mathlib.Core.Path.{◌≡◌, ◌∙◌}
 use mathlib.Core.List.{List}
 use Rattle.base_lists.specs.Bytes.{Bytes}
-use Rattle.base_buffer.specs.declared.Written.{Written}
-use Rattle.base_buffer.specs.declared.Written.TheVariants.{Done, Refused, NoRoom}
+use Rattle.std.specs.Prelude.{None, Result, Ok, Err}
+use Rattle.base_buffer.specs.declared.WriteError.{WriteError}
 use Rattle.base_buffer.specs.Answer.{refusal_of, Wrote}
 use Rattle.base_buffer.proofs.AnswerLaws.{wrote_means}
 use Rattle.read_lines.specs.Lines.{OneLine}
@@ -25,10 +25,9 @@ use Rattle.promise_demands.specs.Demand.{gff3, Again}
 -- ── what a writer accepted ────────────────────────────────────────────────────────────────────
 
 -- for any buffer, by the writer's promise
-pub done_accepted : (i : Item) → Typed i → (d d' : List ℕ) (r : Written) → Wrote (reasons_of i) (line_of i) d d' r → Accepts i d d' r
-done_accepted i t d d' (Done n) w = let m = wrote_means w in ((t, m.0), m.1, m.2)
-done_accepted i t d d' (Refused n) w = tt
-done_accepted i t d d' (NoRoom n) w = tt
+pub done_accepted : (i : Item) → Typed i → (d d' : List ℕ) (r : Result ℕ WriteError) → Wrote (reasons_of i) (line_of i) d d' r → Accepts i d d' r
+done_accepted i t d d' (Ok n) w = let m = wrote_means w in ((t, m.0), m.1, m.2)
+done_accepted i t d d' (Err e) w = tt
 
 -- ── its line ──────────────────────────────────────────────────────────────────────────────────
 
@@ -51,7 +50,7 @@ sound = record { one = item_one; back = item_back }
 
 -- ── a line that was unfolded ──────────────────────────────────────────────────────────────────
 
-pub again_accepted : (line : List ℕ) → Bytes line → refusal_of (unfold_reasons line) ≡ 0 → Again line
+pub again_accepted : (line : List ℕ) → Bytes line → refusal_of (unfold_reasons line) ≡ None → Again line
 unfolding reasons_of Typed numbers_of
 again_accepted line bytes none =
     let same = refused_again line bytes none in

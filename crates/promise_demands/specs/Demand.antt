@@ -2,12 +2,12 @@
 -- `{x : A} → B` for every x of the kind A, B; `(x : A) × B` there is an x of the kind A such that B; `A × B` both; `≡` is; `≢` is not; `∷`
 -- followed by more; `++` followed by a text or list; `Every P l` P holds of each one in l; `ℕ` a number, a byte among them. Assumes nothing:
 -- these are definitions.
-use Rattle.std.specs.Prelude.{ℕ, suc, ◌*◌, ◌-◌, ◌^◌, ◌<◌, ◌≤◌, ◌≡◌, ◌≢◌, true, false, ltb, length, drop, get_or}
+use Rattle.std.specs.Prelude.{ℕ, suc, ◌*◌, ◌-◌, ◌^◌, ◌<◌, ◌≤◌, ◌≡◌, ◌≢◌, true, false, Option, Some, None, Result, Ok, Err, cond, ltb, length, drop, get_or}
 use mathlib.Core.List.{List, [], ◌∷◌, ◌++◌, map}
-use Rattle.std.proofs.Math.Option.{Option, none, some}
+use Rattle.std.proofs.Math.Option.{some}
 use Rattle.base_lists.specs.Bytes.{Every, Bytes, Lacks, comma, tab}
-use Rattle.base_buffer.specs.declared.Written.{Written}
-use Rattle.base_buffer.specs.Answer.{Reason, ◌when◌, refusal_of, number, Wrote}
+use Rattle.base_buffer.specs.declared.WriteError.{WriteError}
+use Rattle.base_buffer.specs.Answer.{Reason, refusal_of, number_or, number, Wrote}
 use Rattle.write_decimals.specs.Decimal.{decimal}
 use Rattle.percent_sets.specs.declared.Set.{Set}
 use Rattle.percent_sets.specs.declared.Set.TheVariants as set
@@ -17,6 +17,8 @@ use Rattle.percent_sets.specs.Sets.{escapes}
 use Rattle.percent_sets.specs.Bars.{bars}
 use Rattle.percent_encode.specs.Encode.{encode_reasons}
 use Rattle.read_lines.specs.Step.{fresh, line_steps}
+use Rattle.base_refusals.specs.declared.Refusal.{Refusal}
+use Rattle.base_refusals.specs.declared.Refusal.TheVariants as refusal
 use Rattle.read_parts.specs.declared.state.State.{State}
 use Rattle.read_parts.specs.declared.Part.{Part}
 use Rattle.read_parts.specs.State as parts
@@ -45,8 +47,6 @@ use Rattle.sheet_form.specs.Sheet as form
 use Rattle.sheet_form.specs.Sheet.{sheet_of}
 use Rattle.read_judge.specs.declared.judging.Numbers.{Numbers}
 use Rattle.read_judge.specs.Judge.{unfolded, unfold_reasons}
-use Rattle.read_record.specs.declared.lay.Unfolded.{Unfolded}
-use Rattle.read_record.specs.declared.lay.Unfolded.TheVariants as outcome
 use Rattle.read_record.specs.Unfold.{as_written, Unfolds}
 use Rattle.read_lines.specs.Lines.{lines}
 use Rattle.read_numbers.specs.Number.{most64}
@@ -74,7 +74,7 @@ use Rattle.promise_survival.specs.Survival.{Writing, Reading, Survival}
 pub record Answers {A : Type 0} (number_of : A → ℕ) (reasons : List Reason) (bytes : ℕ) (P : List ℕ → List ℕ → A → Type 0) : Type 0 where
   pub some_answer : (d : List ℕ) → (d' : List ℕ) × (r : A) × P d d' r
   pub one_answer : {d d₁ d₂ : List ℕ} {r₁ r₂ : A} → P d d₁ r₁ → P d d₂ r₂ → (r₁ ≡ r₂) × (d₁ ≡ d₂)
-  pub first_reason : {d d' : List ℕ} {r : A} → P d d' r → number_of r ≡ refusal_of (reasons ++ ((22 when ltb (length d) bytes) ∷ []))
+  pub first_reason : {d d' : List ℕ} {r : A} → P d d' r → number_of r ≡ number_or (refusal_of reasons) (cond (ltb (length d) bytes) 22 0)
   pub unchanged : {d d' : List ℕ} {r : A} → P d d' r → number_of r ≢ 0 → d' ≡ d
 
 -- so of a function that writes a text
@@ -83,17 +83,16 @@ Writes reasons text = Answers number reasons (length text) (Wrote reasons text)
 
 -- so of a call in parts, whose buffer is the hold: its number is that of the first reason that holds, 34 being the first of all. With 34 the
 -- hold holds what it held; with 25 it need not, since it is no output
-pub record AnswersPart (reasons : ℕ → List Reason) (P : List ℕ → List ℕ → Part → Type 0) : Type 0 where
-  pub some_answer : (d : List ℕ) → (d' : List ℕ) × (r : Part) × P d d' r
-  pub one_answer : {d d₁ d₂ : List ℕ} {r₁ r₂ : Part} → P d d₁ r₁ → P d d₂ r₂ → (r₁ ≡ r₂) × (d₁ ≡ d₂)
-  pub first_reason : {d d' : List ℕ} {r : Part} → P d d' r → part_refusal r ≡ refusal_of (reasons (length d))
-  pub unchanged : {d d' : List ℕ} {r : Part} → P d d' r → part_refusal r ≡ 34 → d' ≡ d
+pub record AnswersPart (reasons : ℕ → List Reason) (P : List ℕ → List ℕ → Result Part Refusal → Type 0) : Type 0 where
+  pub some_answer : (d : List ℕ) → (d' : List ℕ) × (r : Result Part Refusal) × P d d' r
+  pub one_answer : {d d₁ d₂ : List ℕ} {r₁ r₂ : Result Part Refusal} → P d d₁ r₁ → P d d₂ r₂ → (r₁ ≡ r₂) × (d₁ ≡ d₂)
+  pub first_reason : {d d' : List ℕ} {r : Result Part Refusal} → P d d' r → part_refusal r ≡ number_or (refusal_of (reasons (length d))) 0
+  pub unchanged : {d d' : List ℕ} {r : Result Part Refusal} → P d d' r → part_refusal r ≡ 34 → d' ≡ d
 
 -- the fields that an answer of `unfold` hands out
-unfoldable pub fields : Unfolded → Option Numbers
-fields (outcome.Done numbers n) = some numbers
-fields (outcome.Refused n) = none
-fields (outcome.NoRoom n) = none
+unfoldable pub fields : Result (Numbers × ℕ) WriteError → Option Numbers
+fields (Ok (numbers, n)) = Some numbers
+fields (Err e) = None
 
 pub record Demand1 : Type 2 where
   -- every public function takes any arguments, and gives one answer (RULES 15.4), by the definitions that the demands are stated in
@@ -117,8 +116,8 @@ pub record Demand1 : Type 2 where
   -- `take_part`, `end_parts`
   pub take_part : (s : State) (p : List ℕ) → AnswersPart (take_reasons s p) (TakesPart s p)
   pub end_parts : (s : State) → AnswersPart (end_reasons s) (EndsParts s)
-  -- a refused answer holds no field; nor does that of a field reader, whose `Refused` holds its number alone; nor do the structs of C
-  pub no_field : (r : Unfolded) → number (as_written r) ≢ 0 → fields r ≡ none
+  -- a refused answer holds no field; nor does that of a field reader, whose `Err` holds its reason alone; nor do the structs of C
+  pub no_field : (r : Result (Numbers × ℕ) WriteError) → number (as_written r) ≢ 0 → fields r ≡ None
   pub no_field_in_c : NoField
 
 -- ── demand 2 ──────────────────────────────────────────────────────────────────────────────────
@@ -142,11 +141,11 @@ pub record Demand2 : Type 0 where
   pub fields_met : (n : ℕ) (s : List ℕ) (at : ℕ) → length s - at ≤ 2 * n → column9.field_steps n s at ≡ walk_from s at
   pub values_met : (n : ℕ) (s : List ℕ) → length s < n → value.value_steps n s value.fresh ≡ pieces comma s
   -- GFF3, directives and comments: what is written as one reads back, a directive's parts each, a typed value from its own reader
-  pub directive : (key : List ℕ) (value : Value) (first second : List ℕ) → refusal_of (directive_reasons key value first second) ≡ 0
+  pub directive : (key : List ℕ) (value : Value) (first second : List ℕ) → refusal_of (directive_reasons key value first second) ≡ None
       → ReadsDirective (directive_line key value first second) key (value_text value first second)
-  pub typed : (key : List ℕ) (value : Value) (first second : List ℕ) → refusal_of (directive_reasons key value first second) ≡ 0
+  pub typed : (key : List ℕ) (value : Value) (first second : List ℕ) → refusal_of (directive_reasons key value first second) ≡ None
       → Sized value → Back value first second
-  pub comment : (text : List ℕ) → refusal_of (comment_reasons text) ≡ 0 → ReadsComment (comment_line text) text
+  pub comment : (text : List ℕ) → refusal_of (comment_reasons text) ≡ None → ReadsComment (comment_line text) text
 
 -- ── demand 3 ──────────────────────────────────────────────────────────────────────────────────
 
@@ -186,7 +185,7 @@ pub record Again (line : List ℕ) : Type 0 where
   -- the writer refuses them by 24, the sheet is longer than it takes, or by 18, a `CDS` without a phase, and for no other reason
   pub refused : refusal_of (reasons_of (item_again line)) ≡ refusal_of (reasons_left line)
   -- where neither holds it accepts them, and they read back from what it writes
-  pub accepted : refusal_of (reasons_left line) ≡ 0 → Accepted (item_again line) × ReadsBack (item_again line) (line_of (item_again line))
+  pub accepted : refusal_of (reasons_left line) ≡ None → Accepted (item_again line) × ReadsBack (item_again line) (line_of (item_again line))
 
 pub record Demand3 : Type 0 where
   pub survival : Survival gff3 whole_text
@@ -195,13 +194,13 @@ pub record Demand3 : Type 0 where
   pub fits : (l : List ℕ) → length l ≤ hold_length → shown l ≡ run.line l
   -- since calls in a row tell the lines of the whole text, and 25 for each that does not fit
   pub same_in_parts : (d : List ℕ) → length d ≡ hold_length → (s : List ℕ) → Sameness d s
-  pub one_call : (s : State) (d d' : List ℕ) (r : Part) → refuses s.held (length d) ≡ false → OneCall s d d' r
+  pub one_call : (s : State) (d d' : List ℕ) (r : Result Part Refusal) → refuses s.held (length d) ≡ false → OneCall s d d' r
   -- "the writer accepted": where the writer of an item i is done, having been lent a buffer that held d and now holds d', the item is
   -- accepted as it is meant above, and the buffer starts with its line. `Typed i` is what the types of the writer's parameters say, and
   -- nothing else: src/callers.rt calls each writer with any arguments, and promises the same
-  pub written : (i : Item) → Typed i → (d d' : List ℕ) (r : Written) → Wrote (reasons_of i) (line_of i) d d' r → Accepts i d d' r
+  pub written : (i : Item) → Typed i → (d d' : List ℕ) (r : Result ℕ WriteError) → Wrote (reasons_of i) (line_of i) d d' r → Accepts i d d' r
   -- any line of bytes that unfolding does not refuse
-  pub again : (line : List ℕ) → Bytes line → refusal_of (unfold_reasons line) ≡ 0 → Again line
+  pub again : (line : List ℕ) → Bytes line → refusal_of (unfold_reasons line) ≡ None → Again line
 
 -- ── the morning's report ──────────────────────────────────────────────────────────────────────
 
@@ -213,6 +212,6 @@ pub record Counts : Type 0 where
   -- a length lies in the one power of two that it has reached, and not passed
   pub powers : (n i : ℕ) → i < 64 → 2 ^ i ≤ n → n < 2 ^ suc i → power n ≡ i
   pub adds_up : (s : List ℕ) → AddsUp s (counted nothing (lines s))
-  -- 26 exactly where the exact sum passes 18446744073709551615, and then nothing is counted
-  pub passed : (s : List ℕ) → most64 < lengths_of s → morning s ≡ record { refused = 26; report = nothing }
-  pub stays : (s : List ℕ) → lengths_of s ≤ most64 → morning s ≡ record { refused = 0; report = counted nothing (lines s) }
+  -- 26 exactly where the exact sum passes 18446744073709551615, and then there is no report
+  pub passed : (s : List ℕ) → most64 < lengths_of s → morning s ≡ Err refusal.Sum
+  pub stays : (s : List ℕ) → lengths_of s ≤ most64 → morning s ≡ Ok (counted nothing (lines s))

@@ -1,9 +1,8 @@
 -- An item of a GFF3 text: a record, a directive or a comment, as it is handed to its writer; the line that the writer makes of it, and
 -- what it is for a line to read back as it. RULES 8, 9. Assumes nothing: these are definitions.
-use Rattle.std.specs.Prelude.{ℕ, ◌≤◌, ◌≡◌, List, ◌++◌, length, drop}
+use Rattle.std.specs.Prelude.{ℕ, ◌≤◌, ◌≡◌, None, Result, Ok, Err, List, ◌++◌, length, drop}
 use Rattle.base_lists.specs.Bytes.{Bytes}
-use Rattle.base_buffer.specs.declared.Written.{Written}
-use Rattle.base_buffer.specs.declared.Written.TheVariants.{Done, Refused, NoRoom}
+use Rattle.base_buffer.specs.declared.WriteError.{WriteError}
 use Rattle.base_buffer.specs.Answer.{Reason, refusal_of}
 use Rattle.read_numbers.specs.Number.{most64}
 use Rattle.read_kind.specs.Kind.{kind}
@@ -46,14 +45,13 @@ Typed (comment text) = Bytes text
 
 -- the writer accepts the item: no reason to refuse it holds
 abbrev pub Accepted : Item → Type 0
-Accepted i = Typed i × (refusal_of (reasons_of i) ≡ 0)
+Accepted i = Typed i × (refusal_of (reasons_of i) ≡ None)
 
 -- what an answer of its writer says of it: where the writer is done, the item is accepted, and the buffer, which held d before and holds d'
 -- after, starts with its line
-abbrev pub Accepts : Item → List ℕ → List ℕ → Written → Type 0
-Accepts i d d' (Done n) = Accepted i × (n ≡ length (line_of i)) × (d' ≡ line_of i ++ drop n d)
-Accepts i d d' (Refused n) = Unit {0}
-Accepts i d d' (NoRoom n) = Unit {0}
+abbrev pub Accepts : Item → List ℕ → List ℕ → Result ℕ WriteError → Type 0
+Accepts i d d' (Ok n) = Accepted i × (n ≡ length (line_of i)) × (d' ≡ line_of i ++ drop n d)
+Accepts i d d' (Err e) = Unit {0}
 
 -- the record that a line unfolds to, as it is handed to the writer again: RULES 9.5
 abbrev pub item_again : List ℕ → Item

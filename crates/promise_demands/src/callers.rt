@@ -3,7 +3,7 @@
 // Nothing calls them.
 ghost use Rattle.promise_demands.specs.Item.{feature, directive, comment, Accepts};
 
-use base_buffer::Written;
+use base_buffer::WriteError;
 use write_directive::Value;
 
 fn accept_record(
@@ -13,7 +13,7 @@ fn accept_record(
     strand: u32,
     phase: u32,
     out: &mut [u8],
-) -> Written
+) -> Result<usize, WriteError>
     ensures { Accepts (feature sheet.now start end strand phase) out.old out.new result }
 {
     write_record::write_record(sheet, start, end, strand, phase, out)
@@ -25,14 +25,14 @@ fn accept_directive(
     first: &[u8],
     second: &[u8],
     out: &mut [u8],
-) -> Written
+) -> Result<usize, WriteError>
     ensures { Accepts (directive key.now value first.now second.now)
         out.old out.new result }
 {
     write_directive::write_directive(key, value, first, second, out)
 }
 
-fn accept_comment(text: &[u8], out: &mut [u8]) -> Written
+fn accept_comment(text: &[u8], out: &mut [u8]) -> Result<usize, WriteError>
     ensures { Accepts (comment text.now) out.old out.new result }
 {
     write_comment::write_comment(text, out)

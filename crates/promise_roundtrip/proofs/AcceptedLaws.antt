@@ -5,8 +5,9 @@ use mathlib.Core.Path.{◌≡◌, refl, sym, ap, ◌∙◌}
 use mathlib.Core.Logic.{◌≢◌}
 use mathlib.Core.Bool.{Bool, true, false, cond, not, ◌||◌, true≢false}
 use mathlib.Core.List.{List, [], ◌∷◌}
-use mathlib.Core.Option.{Option, none, some}
+use Rattle.std.specs.Prelude.{Option, Some, None, is_some}
 use lib.Dec.{eqb, ltb}
+use Rattle.std.specs.Prelude.{None, Ok}
 use lib.ListN.{length}
 use borrow.Author.Tests.{ltb-false, ne_eqb}
 use Rattle.base_lists.specs.Bytes.{Bytes, Lacks}
@@ -15,10 +16,8 @@ use Rattle.base_buffer.specs.Answer.{refusal_of}
 use Rattle.base_buffer.proofs.AnswerLaws.{none_holds}
 use Rattle.read_tokens.specs.declared.strand.Strand.{Strand}
 use Rattle.read_tokens.specs.declared.strand.Strand.TheVariants as strand
-use Rattle.read_tokens.specs.declared.strand.StrandRead.TheVariants as strand_read
 use Rattle.read_tokens.specs.declared.phase.Phase.{Phase}
 use Rattle.read_tokens.specs.declared.phase.Phase.TheVariants as phase
-use Rattle.read_tokens.specs.declared.phase.PhaseRead.TheVariants as phase_read
 use Rattle.base_lists.proofs.BoolLaws.{or_left, or_right}
 use Rattle.base_lists.proofs.OrderLaws.{some_number}
 use Rattle.base_words.specs.Same.{is_dot}
@@ -26,7 +25,7 @@ use Rattle.read_tokens.specs.Tokens.{strand_number, strand_of, strand_byte, phas
 use Rattle.read_score.specs.Score.{is_score}
 use Rattle.read_tokens.proofs.TokensLaws.{strand_back, phase_back}
 use Rattle.read_score.proofs.ScoreLaws.{is_score_byte, score_lacks, score_no_dot}
-use Rattle.sheet_form.specs.Sheet.{Sheet, sheet_read, is_some, sheet_of}
+use Rattle.sheet_form.specs.Sheet.{Sheet, sheet_read, sheet_of}
 use Rattle.sheet_form.proofs.SheetLaws.{GoodSheet, of_read}
 use Rattle.write_measure.specs.Record.{asked, bad_score, record_reasons, score_column}
 use Rattle.read_judge.specs.Judge as judge
@@ -37,7 +36,7 @@ use Rattle.read_judge.specs.Judge.{no_score}
 -- the text is that of a sheet, not too long, whose score is missing or a token, and the numbers are in their ranges
 pub record AcceptedRecord (text : List ℕ) (start end strand phase : ℕ) : Type 0 where
   pub sheet : Sheet
-  pub reads : sheet_read text ≡ some sheet
+  pub reads : sheet_read text ≡ Some sheet
   pub good : GoodSheet sheet
   pub whole : text ≡ sheet_of sheet
   pub short : length text ≤ most_text
@@ -47,24 +46,24 @@ pub record AcceptedRecord (text : List ℕ) (start end strand phase : ℕ) : Typ
   pub strand_known : strand ≤ 3
   pub phase_known : phase ≤ 3
 
-pub accepted : (text : List ℕ) (start end strand phase : ℕ) → Bytes text → refusal_of (record_reasons text start end strand phase) ≡ 0
+pub accepted : (text : List ℕ) (start end strand phase : ℕ) → Bytes text → refusal_of (record_reasons text start end strand phase) ≡ None
     → AcceptedRecord text start end strand phase
 unfolding record_reasons
 accepted text start end strand phase bytes e =
-    let a = none_holds (ltb most_text (length text)) 23 _ e in
-    let b = none_holds (not (is_some (sheet_read text))) 22 _ a.1 in
-    let c = none_holds (eqb start 0 || eqb end 0) 1 _ b.1 in
-    let d = none_holds (asked bad_score (sheet_read text)) 16 _ c.1 in
-    let f = none_holds (ltb 3 strand) 2 _ d.1 in
-    let g = none_holds (ltb 3 phase) 3 _ f.1 in
+    let a = none_holds (ltb most_text (length text)) _ _ e in
+    let b = none_holds (not (is_some (sheet_read text))) _ _ a.1 in
+    let c = none_holds (eqb start 0 || eqb end 0) _ _ b.1 in
+    let d = none_holds (asked bad_score (sheet_read text)) _ _ c.1 in
+    let f = none_holds (ltb 3 strand) _ _ d.1 in
+    let g = none_holds (ltb 3 phase) _ _ f.1 in
     go (sheet_read text) refl b.0 d.0 (ltb-false _ _ a.0) (some_number start (or_left (eqb start 0) (eqb end 0) c.0))
     (some_number end (or_right (eqb start 0) (eqb end 0) c.0)) (ltb-false _ _ f.0) (ltb-false _ _ g.0)
   where
     go : (o : Option Sheet) → sheet_read text ≡ o → not (is_some o) ≡ false → asked bad_score o ≡ false → length text ≤ most_text
         → 1 ≤ start → 1 ≤ end
         → strand ≤ 3 → phase ≤ 3 → AcceptedRecord text start end strand phase
-    go none p known q h₁ h₂ h₃ h₄ h₅ = absurd (true≢false known)
-    go (some s) p known q h₁ h₂ h₃ h₄ h₅ =
+    go None p known q h₁ h₂ h₃ h₄ h₅ = absurd (true≢false known)
+    go (Some s) p known q h₁ h₂ h₃ h₄ h₅ =
         let r = of_read text s bytes p in
         record {
           sheet = s;
@@ -109,10 +108,10 @@ phase_numbered_is (suc (suc zero)) h = refl
 phase_numbered_is (suc (suc (suc n))) h = omega arith
 
 -- what is written for a number is read as the strand, or the phase, of that number
-pub strand_byte_back : (n : ℕ) → n ≤ 3 → strand_of (strand_byte n ∷ []) ≡ strand_read.Is (strand_numbered n)
+pub strand_byte_back : (n : ℕ) → n ≤ 3 → strand_of (strand_byte n ∷ []) ≡ Ok (strand_numbered n)
 strand_byte_back n h = ap (λ k. strand_of (strand_byte k ∷ [])) (sym (strand_numbered_is n h)) ∙ strand_back (strand_numbered n)
 
-pub phase_byte_back : (n : ℕ) → n ≤ 3 → phase_of (phase_byte n ∷ []) ≡ phase_read.Is (phase_numbered n)
+pub phase_byte_back : (n : ℕ) → n ≤ 3 → phase_of (phase_byte n ∷ []) ≡ Ok (phase_numbered n)
 phase_byte_back n h = ap (λ k. phase_of (phase_byte k ∷ [])) (sym (phase_numbered_is n h)) ∙ phase_back (phase_numbered n)
 
 -- ── the score ─────────────────────────────────────────────────────────────────────────────────

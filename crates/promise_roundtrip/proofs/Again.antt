@@ -2,9 +2,10 @@
 -- reads back as that sheet and those numbers. Assumes nothing.
 use Prim.Native.Nat.{ℕ}
 use native.Mathlib.Omega.{arith}
-use mathlib.Core.Path.{◌≡◌, refl, ◌∙◌}
+use mathlib.Core.Path.{◌≡◌, refl, ap, ◌∙◌}
 use mathlib.Core.Bool.{Bool, true, false, cond, not, ◌||◌, true≢false}
 use mathlib.Core.List.{List, []}
+use Rattle.std.specs.Prelude.{Option, Some, None, Result, Ok, ok_or, is_err}
 use lib.Dec.{eqb, ltb}
 use lib.ListN.{length, take, drop}
 use lib.Seq.{take-append_seam}
@@ -12,10 +13,10 @@ use borrow.Author.Tests.{ltb-false, ne_eqb}
 use Rattle.base_lists.specs.Bytes.{Bytes}
 use Rattle.base_lists.specs.Limits.{most_line}
 use Rattle.base_words.specs.Same.{is_dot}
+use Rattle.base_refusals.specs.declared.Refusal.TheVariants as refusal
+use Rattle.base_buffer.specs.declared.WriteError.{WriteError}
 use Rattle.base_buffer.specs.Answer.{refusal_of}
 use Rattle.base_buffer.proofs.AnswerLaws.{none_of, wrote_means}
-use Rattle.read_numbers.specs.declared.read.Number.{Number}
-use Rattle.read_numbers.specs.declared.read.Number.TheVariants.{Value, Invalid}
 use Rattle.read_numbers.specs.Number.{position}
 use Rattle.read_numbers.proofs.NumberLaws.{numeral_bounds}
 use Rattle.read_score.specs.Score.{is_score}
@@ -23,15 +24,13 @@ use Rattle.read_tokens.specs.declared.strand.Strand.{Strand}
 use Rattle.read_tokens.specs.declared.strand.Strand.TheVariants as strand
 use Rattle.read_tokens.specs.declared.phase.Phase.{Phase}
 use Rattle.read_tokens.specs.declared.phase.Phase.TheVariants as phase
-use Rattle.read_tokens.specs.Tokens.{position_by, position_of, strand_number, phase_number}
+use Rattle.read_tokens.specs.Tokens.{position_of, strand_number, phase_number}
 use Rattle.read_columns.specs.declared.column.Column.TheVariants as column
 use Rattle.read_columns.specs.Columns.{column_text}
 use Rattle.sheet_form.specs.Sheet.{sheet_of}
 use Rattle.write_measure.specs.Record.{record_reasons}
 use Rattle.read_judge.specs.declared.judging.Numbers.{Numbers}
-use Rattle.read_judge.specs.Judge.{score_of_token, unfolded, position_in, numbers_of, no_position, no_score, unfold_reasons}
-use Rattle.read_judge.proofs.SurveyLaws.{unfold_numbered}
-use Rattle.read_record.specs.declared.lay.Unfolded.TheVariants.{Done}
+use Rattle.read_judge.specs.Judge.{score_of_token, unfolded, or_else, numbers_of, no_score, unfold_reasons}
 use Rattle.read_record.specs.Unfold.{Unfolds}
 use Rattle.promise_roundtrip.specs.Again.{reasons_again, reasons_left, ReadsAgain}
 use Rattle.promise_roundtrip.proofs.AcceptedLaws.{Fit}
@@ -42,13 +41,13 @@ use Rattle.promise_roundtrip.proofs.RecordBack.{record_back}
 -- ── what unfolding does not refuse, the writer does not ───────────────────────────────────────
 
 -- a position is not zero
-some_position : (s : List ℕ) → no_position (position_of s) ≡ false → eqb (position_in (position_of s)) 0 ≡ false
+some_position : (s : List ℕ) → is_err (position_of s) ≡ false → eqb (or_else (position_of s) 0) 0 ≡ false
 unfolding position_of
 some_position s e = go (position s) refl e
   where
-    go : (n : Number) → position s ≡ n → no_position (position_by n) ≡ false → eqb (position_in (position_by n)) 0 ≡ false
-    go (Value v) p e = ne_eqb v 0 (λ z. omega (arith, (numeral_bounds s p).0))
-    go Invalid p e = absurd (true≢false e)
+    go : (n : Option ℕ) → position s ≡ n → is_err (ok_or n refusal.Position) ≡ false → eqb (or_else (ok_or n refusal.Position) 0) 0 ≡ false
+    go (Some v) p e = ne_eqb v 0 (λ z. omega (arith, (numeral_bounds s p).0))
+    go None p e = absurd (true≢false e)
 
 -- a score is missing or a token
 fit_token : (s : List ℕ) → no_score s ≡ false → Fit (score_of_token s)
@@ -76,11 +75,11 @@ phase_known phase.Two = refl
 phase_known phase.None = refl
 
 -- so, of a line that unfolding does not refuse, the writer's reasons come to the two that are left
-pub refused_again : (line : List ℕ) → Bytes line → refusal_of (unfold_reasons line) ≡ 0
+pub refused_again : (line : List ℕ) → Bytes line → refusal_of (unfold_reasons line) ≡ None
     → refusal_of (reasons_again (sheet_of (unfolded line)) (numbers_of line)) ≡ refusal_of (reasons_left line)
 unfolding record_reasons unfolded numbers_of
 refused_again line bytes none =
-    let known = none_of (unfold_reasons line) (unfold_numbered line) none in
+    let known = none_of (unfold_reasons line) none in
     let middle = known.1.1 in
     rw (
       unfolded_reads line bytes (ltb-false most_line (length line) known.0),
@@ -94,7 +93,7 @@ refused_again line bytes none =
 -- ── what is written reads back ────────────────────────────────────────────────────────────────
 
 -- where the writer accepts what was unfolded; so too of a line with a refused column, by what stands in its place
-pub written_again : (line : List ℕ) → Bytes line → refusal_of (reasons_again (sheet_of (unfolded line)) (numbers_of line)) ≡ 0
+pub written_again : (line : List ℕ) → Bytes line → refusal_of (reasons_again (sheet_of (unfolded line)) (numbers_of line)) ≡ None
     → ReadsAgain (sheet_of (unfolded line)) (numbers_of line)
 unfolding numbers_of
 written_again line bytes =
@@ -105,18 +104,20 @@ written_again line bytes =
 
 -- ── by the promise of unfolding ───────────────────────────────────────────────────────────────
 
-module _ {line d d' : List ℕ} {n : Numbers} {k : ℕ} (u : Unfolds line d d' (Done n k)) where
+same_numbers : {a b : Numbers} {k l : ℕ} → ◌≡◌ {A = Result (Numbers × ℕ) WriteError} (Ok (a, k)) (Ok (b, l)) → a ≡ b
+same_numbers {a} {b} {k} {l} e = let p : ◌≡◌ {A = Numbers × ℕ} (a, k) (b, l) = cc in ap (λ (p : Numbers × ℕ). p.0) p
+
+module _ {line d d' : List ℕ} {n : Numbers} {k : ℕ} (u : Unfolds line d d' (Ok (n, k))) where
   -- where it is done, its answer has the line's numbers, and the bytes that it counts are the line's sheet
-  done_unfolds : (refusal_of (unfold_reasons line) ≡ 0) × (n ≡ numbers_of line) × (take k d' ≡ sheet_of (unfolded line))
+  done_unfolds : (refusal_of (unfold_reasons line) ≡ None) × (n ≡ numbers_of line) × (take k d' ≡ sheet_of (unfolded line))
   done_unfolds =
       let t = wrote_means u.wrote in
-      let e = u.same in
-      (t.0, cc, rw (t.2, t.1) (take-append_seam (sheet_of (unfolded line)) (drop (length (sheet_of (unfolded line))) d)))
+      (t.0, same_numbers u.same, rw (t.2, t.1) (take-append_seam (sheet_of (unfolded line)) (drop (length (sheet_of (unfolded line))) d)))
 
   -- the bytes that it answers for, written with the numbers that it answers
   pub unfolded_again : Bytes line
       → (refusal_of (reasons_again (take k d') n) ≡ refusal_of (reasons_left line))
-      × (refusal_of (reasons_left line) ≡ 0 → ReadsAgain (take k d') n)
+      × (refusal_of (reasons_left line) ≡ None → ReadsAgain (take k d') n)
   unfolded_again bytes =
       let t = done_unfolds in
       let r = refused_again line bytes t.0 in

@@ -9,12 +9,12 @@ use mathlib.Core.Option.{Option, none, some}
 use lib.Dec.{eqb, ltb}
 use lib.ListN.{length, take, drop}
 use borrow.Author.Tests.{ltb-true}
+use Rattle.std.specs.Prelude as std
 use Rattle.base_lists.specs.Bytes.{Every, Bytes, comma}
 use Rattle.base_lists.proofs.BoolLaws.{and_left, and_right}
 use Rattle.base_lists.proofs.EveryLaws.{every_append, every_map}
 use Rattle.base_lists.proofs.TableLaws.{below_holds}
-use Rattle.read_numbers.specs.declared.read.Number.{Number}
-use Rattle.read_numbers.specs.declared.read.Number.TheVariants.{Value, Invalid}
+use Rattle.base_refusals.specs.declared.Refusal.TheVariants as refusal
 use Rattle.read_numbers.specs.Number.{position, most64}
 use Rattle.read_numbers.proofs.NumberLaws.{numeral_bounds}
 use Rattle.percent_coding.specs.Percent.{is_hex, hex_value, decoded}
@@ -24,12 +24,12 @@ use Rattle.base_words.specs.Same.{is_dot}
 use Rattle.read_attributes.specs.Attributes.{Walk, done, refused, then, tag_after, value_after, walk_from, walk, Attribute, attribute}
 use Rattle.read_attributes.specs.Attributes.{values, and_before, attributes}
 use Rattle.read_attributes.specs.Written.{Writable}
-use Rattle.read_tokens.specs.Tokens.{position_by, position_of}
+use Rattle.read_tokens.specs.Tokens.{position_of}
 use Rattle.read_columns.specs.declared.column.Column.{Column}
 use Rattle.read_columns.specs.declared.column.Column.TheVariants as column
 use Rattle.read_columns.specs.Columns.{column_place, column_text}
 use Rattle.sheet_form.specs.Sheet.{Sheet, count_of, section_of, counted_of, attribute_of, sheet_of}
-use Rattle.read_judge.specs.Judge.{got, unfolded, position_in}
+use Rattle.read_judge.specs.Judge.{got, unfolded, or_else}
 use Rattle.promise_roundtrip.proofs.AcceptedLaws.{score_bytes}
 
 -- ── parts and pieces ──────────────────────────────────────────────────────────────────────────
@@ -207,10 +207,10 @@ unfolded_bytes s h = sheet_bytes (unfolded s) (unfolded_texts s h)
 
 -- ── the positions ─────────────────────────────────────────────────────────────────────────────
 
-pub position_le : (s : List ℕ) → position_in (position_of s) ≤ most64
+pub position_le : (s : List ℕ) → or_else (position_of s) 0 ≤ most64
 unfolding position_of
 position_le s = go (position s) refl
   where
-    go : (n : Number) → position s ≡ n → position_in (position_by n) ≤ most64
-    go (Value v) e = (numeral_bounds s e).1
-    go Invalid e = omega arith
+    go : (n : std.Option ℕ) → position s ≡ n → or_else (std.ok_or n refusal.Position) 0 ≤ most64
+    go (std.Some v) e = (numeral_bounds s e).1
+    go std.None e = omega arith

@@ -4,7 +4,7 @@ use native.Mathlib.Omega.{arith}
 use mathlib.Core.Path.{◌≡◌}
 use mathlib.Core.Logic.{◌≢◌}
 use mathlib.Core.List.{List, [], ◌∷◌, flat_map}
-use mathlib.Core.Option.{some}
+use Rattle.std.specs.Prelude.{Some}
 use lib.ListN.{length, length-append}
 use Rattle.base_lists.specs.Bytes.{Every, Bytes}
 use Rattle.base_lists.specs.Limits.{most_line}
@@ -55,6 +55,6 @@ sheet_good s h b =
 -- ── the sheet of a line ───────────────────────────────────────────────────────────────────────
 
 -- a line that is short enough to unfold makes no count that is too large for four bytes
-pub unfolded_reads : (line : List ℕ) → Bytes line → length line ≤ most_line → sheet_read (sheet_of (unfolded line)) ≡ some (unfolded line)
+pub unfolded_reads : (line : List ℕ) → Bytes line → length line ≤ most_line → sheet_read (sheet_of (unfolded line)) ≡ Some (unfolded line)
 unfolded_reads line bytes short =
     read_of (unfolded line) (sheet_good (unfolded line) (omega (arith, sheet_few line)) (unfolded_texts line bytes))

@@ -6,7 +6,7 @@ use mathlib.Core.Path.{◌≡◌, refl, sym}
 use mathlib.Core.Logic.{◌≢◌}
 use mathlib.Core.Bool.{Bool, true, false, cond}
 use mathlib.Core.List.{List, [], ◌∷◌, ◌++◌, map, flat_map}
-use mathlib.Core.Option.{some}
+use Rattle.std.specs.Prelude.{Some}
 use lib.Dec.{eqb}
 use lib.ListN.{length, get_or, length-append}
 use Rattle.base_lists.specs.Bytes.{Every, Bytes, Lacks, tab, lf, cr, hash, comma, dot, semicolon, equals}
@@ -120,7 +120,7 @@ module _ {encode : Set → List ℕ → List ℕ} (coder : (set : Set) → Coder
         let phase_other : phase_byte phase ≢ c = λ p. omega (arith, phase_large phase) in
         (name, (source, (type, (decimal_lacks c start digit, (decimal_lacks c end digit, (score, ((strand_other, tt), ((phase_other, tt), tt))))))))
 
-    line_lacks : c ≢ tab → Lacks c (sheet_line encode (some a.sheet) start end strand phase)
+    line_lacks : c ≢ tab → Lacks c (sheet_line encode (Some a.sheet) start end strand phase)
     line_lacks other =
         let l = a.sheet.attributes in
         let signs : Lacks c (comma ∷ dot ∷ semicolon ∷ equals ∷ []) = ((λ p. omega arith), ((λ p. omega arith), ((λ p. omega arith), ((λ p. omega arith), tt)))) in
@@ -132,7 +132,7 @@ module _ {encode : Set → List ℕ → List ℕ} (coder : (set : Set) → Coder
   pub columns_no_tab : Every (Lacks tab) (columns encode a.sheet start end strand phase)
   columns_no_tab = columns_lack tab (omega arith) refl refl
 
-  pub line_one : OneLine (sheet_line encode (some a.sheet) start end strand phase)
+  pub line_one : OneLine (sheet_line encode (Some a.sheet) start end strand phase)
   unfolding columns
   line_one = (
     line_lacks lf (omega arith) refl refl (omega arith),
@@ -140,14 +140,14 @@ module _ {encode : Set → List ℕ → List ℕ} (coder : (set : Set) → Coder
     simp length-append (omega arith),
   )
 
-  pub line_kind : kind (sheet_line encode (some a.sheet) start end strand phase) ≡ Record
+  pub line_kind : kind (sheet_line encode (Some a.sheet) start end strand phase) ≡ Record
   unfolding columns
   line_kind =
       kind_record _ (begins (encode Name a.sheet.name) _
       ((coder Name).lacks hash bars_hash.0 a.sheet.name a.good.good_name.1))
 
   -- three times the sheet without its five counts, forty digits, eight tabs, strand, phase, and a `.` for each of score and attributes
-  pub line_short : start ≤ most64 → end ≤ most64 → length (sheet_line encode (some a.sheet) start end strand phase) ≤ 3145720
+  pub line_short : start ≤ most64 → end ≤ most64 → length (sheet_line encode (Some a.sheet) start end strand phase) ≤ 3145720
   unfolding columns
   line_short low high =
       let s = a.sheet in

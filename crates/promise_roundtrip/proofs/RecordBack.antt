@@ -6,10 +6,13 @@ use mathlib.Core.Path.{◌≡◌, refl, sym, ap, ◌∙◌}
 use mathlib.Core.Bool.{true}
 use mathlib.Core.List.{List}
 use mathlib.Core.Option.{some}
+use Rattle.std.specs.Prelude.{Some}
 use lib.ListN.{length, get_or}
+use Rattle.std.specs.Prelude.{None, Result, Ok}
 use borrow.Author.Tests.{le-ltb}
 use Rattle.base_lists.specs.Bytes.{Bytes}
 use Rattle.base_lists.specs.Limits.{most_line}
+use Rattle.base_buffer.specs.declared.WriteError.{WriteError}
 use Rattle.base_buffer.specs.Answer.{refusal_of, Wrote}
 use Rattle.base_buffer.proofs.AnswerLaws.{wrote_means, wrote_given_room}
 use Rattle.write_decimals.specs.Decimal.{decimal}
@@ -28,9 +31,6 @@ use Rattle.read_lines.specs.Lines.{OneLine}
 use Rattle.read_attributes.specs.Attributes.{attributes, walk}
 use Rattle.read_attributes.specs.Written as column9
 use Rattle.read_attributes.proofs.WrittenLaws.{walk_column}
-use Rattle.read_tokens.specs.declared.position.PositionRead.TheVariants as position_read
-use Rattle.read_tokens.specs.declared.strand.StrandRead.TheVariants as strand_read
-use Rattle.read_tokens.specs.declared.phase.PhaseRead.TheVariants as phase_read
 use Rattle.read_tokens.specs.Tokens.{position_of, strand_of, phase_of}
 use Rattle.read_columns.specs.declared.column.Column.{Column}
 use Rattle.read_columns.specs.declared.column.Column.TheVariants as column
@@ -38,8 +38,8 @@ use Rattle.read_columns.specs.Columns.{has_columns, column_text, tabs_before}
 use Rattle.read_columns.proofs.ColumnsLaws.{row_record, row_text}
 use Rattle.sheet_form.specs.Sheet.{sheet_read, sheet_of}
 use Rattle.write_measure.specs.Record.{columns, sheet_line, record_reasons, record_line}
+use Rattle.read_judge.specs.declared.judging.Numbers.{Numbers}
 use Rattle.read_judge.specs.Judge.{unfolded, numbers_of, unfold_reasons}
-use Rattle.read_record.specs.declared.lay.Unfolded.{Unfolded}
 use Rattle.read_record.specs.Unfold.{as_written, with_numbers, Unfolds}
 use Rattle.promise_roundtrip.specs.Reading.{AreNumbers, Gives, ReadsRecord}
 use Rattle.promise_roundtrip.proofs.AcceptedLaws.{AcceptedRecord, accepted, strand_numbered, phase_numbered, strand_numbered_is}
@@ -48,14 +48,14 @@ use Rattle.promise_roundtrip.proofs.LineLaws.{writable, columns_no_tab, line_one
 
 -- what unfolding makes of the line, said of the definitions: no reason to refuse it, this sheet and these numbers
 pub record Unfolding (line sheet : List ℕ) (start end strand phase : ℕ) : Type 0 where
-  pub no_reason : refusal_of (unfold_reasons line) ≡ 0
+  pub no_reason : refusal_of (unfold_reasons line) ≡ None
   pub same_sheet : sheet_of (unfolded line) ≡ sheet
   pub same_numbers : AreNumbers (numbers_of line) start end strand phase
 
 -- ── the columns of the line ───────────────────────────────────────────────────────────────────
 
 -- a position that is written is read
-position_back : (n : ℕ) → 1 ≤ n → n ≤ most64 → position_of (decimal n) ≡ position_read.Is n
+position_back : (n : ℕ) → 1 ≤ n → n ≤ most64 → position_of (decimal n) ≡ Ok n
 unfolding position_of
 position_back n h g = rw (position_decimal n h g)
 
@@ -63,7 +63,7 @@ module _ {encode : Set → List ℕ → List ℕ} (coder : (set : Set) → Coder
     {text : List ℕ} {start end strand phase : ℕ} (a : AcceptedRecord text start end strand phase) (low : start ≤ most64)
     (high : end ≤ most64) where
   abbrev line : List ℕ
-  line = sheet_line encode (some a.sheet) start end strand phase
+  line = sheet_line encode (Some a.sheet) start end strand phase
 
   -- column 9 as it is written
   abbrev column_9 : List ℕ
@@ -78,19 +78,19 @@ module _ {encode : Set → List ℕ → List ℕ} (coder : (set : Set) → Coder
   unfolding columns
   is_record = row_record (columns encode a.sheet start end strand phase) column_9 refl (columns_no_tab coder a)
 
-  start_read : position_of (column_text column.Start line) ≡ position_read.Is start
+  start_read : position_of (column_text column.Start line) ≡ Ok start
   unfolding columns
   start_read = rw (text_is column.Start) (position_back start a.some_start low)
 
-  end_read : position_of (column_text column.End line) ≡ position_read.Is end
+  end_read : position_of (column_text column.End line) ≡ Ok end
   unfolding columns
   end_read = rw (text_is column.End) (position_back end a.some_end high)
 
-  strand_is : strand_of (column_text column.Strand line) ≡ strand_read.Is (strand_numbered strand)
+  strand_is : strand_of (column_text column.Strand line) ≡ Ok (strand_numbered strand)
   unfolding columns
   strand_is = rw (text_is column.Strand) (strand_byte_back strand a.strand_known)
 
-  phase_is : phase_of (column_text column.Phase line) ≡ phase_read.Is (phase_numbered phase)
+  phase_is : phase_of (column_text column.Phase line) ≡ Ok (phase_numbered phase)
   unfolding columns
   phase_is = rw (text_is column.Phase) (phase_byte_back phase a.phase_known)
 
@@ -103,7 +103,7 @@ module _ {encode : Set → List ℕ → List ℕ} (coder : (set : Set) → Coder
 
   -- ── what unfolding makes of it ──
 
-  no_reason : refusal_of (unfold_reasons line) ≡ 0
+  no_reason : refusal_of (unfold_reasons line) ≡ None
   unfolding columns
   no_reason =
       let short = line_short coder a low high in
@@ -153,7 +153,7 @@ module _ {encode : Set → List ℕ → List ℕ} (coder : (set : Set) → Coder
 
 -- a line that unfolds into a sheet gives it, whatever the buffer held
 pub unfolding_gives : {line sheet : List ℕ} {start end strand phase : ℕ} → Unfolding line sheet start end strand phase
-    → (d d' : List ℕ) (r : Unfolded) → length sheet ≤ length d → Unfolds line d d' r → Gives sheet start end strand phase d d' r
+    → (d d' : List ℕ) (r : Result (Numbers × ℕ) WriteError) → length sheet ≤ length d → Unfolds line d d' r → Gives sheet start end strand phase d d' r
 unfolding_gives {line} {sheet} u d d' r room p =
     let w : Wrote (unfold_reasons line) sheet d d' (as_written r) = rw u.same_sheet at p.wrote in
     let e = wrote_given_room u.no_reason room w in
@@ -165,12 +165,12 @@ unfolding_gives {line} {sheet} u d d' r room p =
     }
 
 module _ (text : List ℕ) (start end strand phase : ℕ) (bytes : Bytes text) (low : start ≤ most64) (high : end ≤ most64)
-    (writes : refusal_of (record_reasons text start end strand phase) ≡ 0) where
+    (writes : refusal_of (record_reasons text start end strand phase) ≡ None) where
   taken : AcceptedRecord text start end strand phase
   taken = accepted text start end strand phase bytes writes
 
   -- the line, by the sets' own encoders
-  line_is : record_line text start end strand phase ≡ sheet_line (λ set. encoded (escapes set)) (some taken.sheet) start end strand phase
+  line_is : record_line text start end strand phase ≡ sheet_line (λ set. encoded (escapes set)) (Some taken.sheet) start end strand phase
   unfolding record_line
   line_is = rw taken.reads
 
@@ -185,7 +185,7 @@ module _ (text : List ℕ) (start end strand phase : ℕ) (bytes : Bytes text) (
   record_short = rw line_is (line_short coder_of taken low high)
 
   -- what is unfolded is the sheet that the text is read as
-  pub record_sheet : sheet_read text ≡ some (unfolded (record_line text start end strand phase))
+  pub record_sheet : sheet_read text ≡ Some (unfolded (record_line text start end strand phase))
   record_sheet = rw (line_is, sheet_back coder_of taken low high) taken.reads
 
   pub record_unfolds : Unfolding (record_line text start end strand phase) text start end strand phase

@@ -1,6 +1,7 @@
 -- A line that is unfolded, and written again from its own sheet and numbers: RULES 9.5. Assumes nothing: these are definitions.
 use Rattle.std.specs.Prelude.{ℕ, ◌&&◌, List, [], ◌∷◌, eqb, ltb, length}
 use Rattle.base_lists.specs.Limits.{most_text}
+use Rattle.base_refusals.specs.declared.Refusal.TheVariants as refusal
 use Rattle.base_buffer.specs.Answer.{Reason, ◌when◌}
 use Rattle.read_tokens.specs.Tokens.{strand_number, phase_number}
 use Rattle.sheet_form.specs.Sheet.{sheet_of}
@@ -16,8 +17,8 @@ reasons_again sheet n = record_reasons sheet n.start n.end (strand_number n.stra
 -- those that are left for what a line unfolds to: 24, its sheet is longer than the writer takes; 18, it is a `CDS` without a phase
 abbrev pub reasons_left : List ℕ → List Reason
 reasons_left line =
-    (24 when ltb most_text (length (sheet_of (unfolded line))))
-    ∷ (18 when is_cds (unfolded line) && eqb (phase_number (numbers_of line).phase) 3)
+    (refusal.TooLong when ltb most_text (length (sheet_of (unfolded line))))
+    ∷ (refusal.PhaseMissing when is_cds (unfolded line) && eqb (phase_number (numbers_of line).phase) 3)
     ∷ []
 
 -- what is written of the sheet and the numbers reads back as them

@@ -6,7 +6,8 @@ use Rattle.base_lists.specs.Bytes.{ascii}
 use Rattle.base_words.specs.Same.{is_dot}
 use Rattle.base_scan.specs.Find.{index, seek}
 use Rattle.percent_coding.specs.Percent.{is_hex, hex_value, decoded}
-use Rattle.read_attributes.specs.declared.field.Step.TheVariants as step
+use Rattle.std.specs.Prelude.{None, Ok, Err}
+use Rattle.base_refusals.specs.declared.Refusal.TheVariants as refusal
 use Rattle.read_values.specs.Pieces.{pieces_after}
 use Rattle.read_attributes.specs.Attributes.{done, refused, then, tag_after, walk_from, walk, attribute, attributes}
 use Rattle.read_attributes.specs.Step.{next_field}
@@ -20,7 +21,7 @@ samples :
     × (walk (ascii "=") ≡ then [] [] done)
     × (attributes (walk (ascii "a=x%2Cy")) ≡ some (record { tag = ascii "a"; values = ascii "x,y" ∷ [] } ∷ []))
     × (attributes (walk (ascii "a=x,y")) ≡ some (record { tag = ascii "a"; values = ascii "x" ∷ ascii "y" ∷ [] } ∷ []))
-    × (next_field (ascii ".") 0 ≡ step.Done) × (next_field (ascii ".") 7 ≡ step.Done)
-    × (next_field (ascii "a=1;.") 4 ≡ step.Refused)
+    × (next_field (ascii ".") 0 ≡ Ok None) × (next_field (ascii ".") 7 ≡ Ok None)
+    × (next_field (ascii "a=1;.") 4 ≡ Err refusal.Attribute)
 unfolding index seek is_hex hex_value decoded pieces_after tag_after is_dot walk_from attribute attributes next_field
 samples = (refl, refl, refl, refl, refl, refl, refl, refl, refl)

@@ -5,7 +5,7 @@ use Prim.Native.Nat.{ℕ, zero, suc, ◌+◌, ◌-◌, ◌*◌, ◌≤◌, ◌<�
 use native.Mathlib.Omega.{arith}
 use native.Mathlib.Nat.{eq-or-lt_of_le}
 use mathlib.Core.Path.{◌≡◌, refl, sym, ap, ◌∙◌}
-use mathlib.Core.Logic.{⊎_elim}
+use mathlib.Core.Logic.{◌⊎◌, inl, inr, ⊎_elim}
 use mathlib.Core.Bool.{Bool, true, false, cond}
 use mathlib.Core.List.{List, [], ◌∷◌, ◌++◌, append_assoc, append-nil}
 use lib.Dec.{eqb, leb}
@@ -20,8 +20,10 @@ use Rattle.base_scan.proofs.FindLaws.{index_le, seek_at, seek_le, seek_ge, lacks
 use Rattle.base_scan.proofs.PartLaws.{length_part, part_found, drop_found}
 use Rattle.read_values.proofs.ValueLaws.{drop_clipped}
 use Rattle.read_attributes.specs.declared.field.Field.{Field}
-use Rattle.read_attributes.specs.declared.field.Step.{Step}
-use Rattle.read_attributes.specs.declared.field.Step.TheVariants.{Is, Done, Refused}
+use Rattle.std.specs.Prelude.{Option, Some, None, Result, Ok, Err}
+use Rattle.std.specs.Result.{result_unwrap_or}
+use Rattle.base_refusals.specs.declared.Refusal.{Refusal}
+use Rattle.base_refusals.specs.declared.Refusal.TheVariants as refusal
 use Rattle.read_attributes.specs.Attributes.{done, refused, then, tag_after, value_after, walk_from}
 use Rattle.read_attributes.specs.Step.{field_to, next_field, field_then, field_steps}
 
@@ -119,10 +121,10 @@ module _ (s : List ℕ) (at : ℕ) where
     pub inside : field.value.end ≤ length s
 
   -- what an answer says of the walk from a cursor on
-  abbrev pub Meets : Step → Type 0
-  Meets Done = walk_from s at ≡ done
-  Meets Refused = walk_from s at ≡ refused
-  Meets (Is field) = Hands field
+  abbrev pub Meets : Result (Option Field) Refusal → Type 0
+  Meets (Ok None) = walk_from s at ≡ done
+  Meets (Err r) = (r ≡ refusal.Attribute) × (walk_from s at ≡ refused)
+  Meets (Ok (Some field)) = Hands field
 
   attribute_meets : is_dot s ≡ false → at < length s → found equals at s < length s → Hands (field_to s at (found equals at s))
   unfolding walk_from
@@ -150,17 +152,31 @@ module _ (s : List ℕ) (at : ℕ) where
   field_meets = go (is_dot s) refl (leb (length s) at) refl (eqb (found equals at s) (length s)) refl
     where
       go : (d : Bool) → is_dot s ≡ d → (l : Bool) → leb (length s) at ≡ l → (e : Bool) → eqb (found equals at s) (length s) ≡ e
-          → Meets (cond d Done (cond l Done (cond e Refused (Is (field_to s at (found equals at s))))))
+          → Meets (cond d (Ok None) (cond l (Ok None) (cond e (Err refusal.Attribute) (Ok (Some (field_to s at (found equals at s)))))))
       go true p l q e r = rw p
       go false p true q e r = walk_past (leb-true (length s) at q)
-      go false p false q true r = rw p (walk_stuck (leb-false (length s) at q) (eqb-true (found equals at s) (length s) r))
+      go false p false q true r = (refl, rw p (walk_stuck (leb-false (length s) at q) (eqb-true (found equals at s) (length s) r)))
       go false p false q false r =
           attribute_meets p (leb-false (length s) at q)
           (omega (arith, eqb-false (found equals at s) (length s) r, seek_le (is equals) at s))
 
   -- what a step answered, as its caller has it
-  pub meets : {r k : Step} → r ≡ next_field s at → r ≡ k → Meets k
+  pub meets : {r k : Result (Option Field) Refusal} → r ≡ next_field s at → r ≡ k → Meets k
   meets e f = rw (← f, e) field_meets
+
+  -- where a refusal counts as an end
+  abbrev pub Leads : Option Field → Type 0
+  Leads None = (walk_from s at ≡ done) ⊎ (walk_from s at ≡ refused)
+  Leads (Some field) = Hands field
+
+  leads_by : (r : Result (Option Field) Refusal) → Meets r → Leads (result_unwrap_or r None)
+  leads_by (Ok None) m = inl m
+  leads_by (Err r) m = inr m.1
+  leads_by (Ok (Some field)) m = m
+
+  pub leads : {r : Result (Option Field) Refusal} {k m : Option Field} → r ≡ next_field s at → k ≡ result_unwrap_or r None → k ≡ m
+      → Leads m
+  leads {r} e f g = rw (← g, f) (leads_by r (meets e refl))
 
 -- ── steps in a row ────────────────────────────────────────────────────────────────────────────
 
@@ -171,8 +187,8 @@ unfolding field_steps
 fields_met zero s at h = sym (walk_past s at (omega arith))
 fields_met (suc n) s at h = go (next_field s at) (field_meets s at) (fields_met n s)
   where
-    go : (r : Step) → Meets s at r → ((next : ℕ) → length s - next ≤ 2 * n → field_steps n s next ≡ walk_from s next)
+    go : (r : Result (Option Field) Refusal) → Meets s at r → ((next : ℕ) → length s - next ≤ 2 * n → field_steps n s next ≡ walk_from s next)
         → field_then s r (field_steps n s) ≡ walk_from s at
-    go Done m rest = sym m
-    go Refused m rest = sym m
-    go (Is field) m rest = rw (rest field.next (omega arith)) (sym m.met)
+    go (Ok None) m rest = sym m
+    go (Err r) m rest = sym m.1
+    go (Ok (Some field)) m rest = rw (rest field.next (omega arith)) (sym m.met)

@@ -1,13 +1,13 @@
 -- A step of the walk over column 9 (RULES 5.3), as a function of the column and the cursor alone; and steps in a row. Assumes nothing:
 -- these are definitions.
-use Rattle.std.specs.Prelude.{ℕ, zero, suc, ◌+◌, min, cond, List, eqb, leb, length}
+use Rattle.std.specs.Prelude.{ℕ, zero, suc, ◌+◌, min, cond, List, eqb, leb, length, Option, Some, None, Result, Ok, Err}
 use Rattle.base_lists.specs.Bytes.{semicolon, equals}
+use Rattle.base_refusals.specs.declared.Refusal.{Refusal}
+use Rattle.base_refusals.specs.declared.Refusal.TheVariants as refusal
 use Rattle.base_words.specs.Same.{is_dot}
 use Rattle.base_scan.specs.Find.{found}
 use Rattle.base_scan.specs.Part.{text_at}
 use Rattle.read_attributes.specs.declared.field.Field.{Field}
-use Rattle.read_attributes.specs.declared.field.Step.{Step}
-use Rattle.read_attributes.specs.declared.field.Step.TheVariants.{Is, Done, Refused}
 use Rattle.read_attributes.specs.Attributes.{Walk, done, refused, then}
 
 -- the attribute that begins at a cursor and whose `=` is at e: the next cursor is one past its `;`, or the end
@@ -19,23 +19,17 @@ field_to s at e =
       next = min (found semicolon (e + 1) s + 1) (length s);
     }
 
--- done where the column is `.`, and at the end and beyond it; refused, by number 5, where no `=` is left
-unfoldable pub next_field : List ℕ → ℕ → Step
+-- none, which is done, where the column is `.`, and at the end and beyond it; refused, by number 5, where no `=` is left
+unfoldable pub next_field : List ℕ → ℕ → Result (Option Field) Refusal
 next_field s at =
-    cond (is_dot s) Done
-    (cond (leb (length s) at) Done (cond (eqb (found equals at s) (length s)) Refused (Is (field_to s at (found equals at s)))))
-
--- the number of an answer (RULES 10): 5 where it is refused
-abbrev pub step_refusal : Step → ℕ
-step_refusal (Is field) = 0
-step_refusal Done = 0
-step_refusal Refused = 5
+    cond (is_dot s) (Ok None) (cond (leb (length s) at) (Ok None)
+    (cond (eqb (found equals at s) (length s)) (Err refusal.Attribute) (Ok (Some (field_to s at (found equals at s))))))
 
 -- what comes of an answer: the attribute as it stands, and what is met from the next cursor on
-abbrev pub field_then : List ℕ → Step → (ℕ → Walk) → Walk
-field_then s Done more = done
-field_then s Refused more = refused
-field_then s (Is field) more = then (text_at field.tag s) (text_at field.value s) (more field.next)
+abbrev pub field_then : List ℕ → Result (Option Field) Refusal → (ℕ → Walk) → Walk
+field_then s (Ok None) more = done
+field_then s (Err r) more = refused
+field_then s (Ok (Some field)) more = then (text_at field.tag s) (text_at field.value s) (more field.next)
 
 -- what n steps in a row meet from a cursor on
 unfoldable pub field_steps : ℕ → List ℕ → ℕ → Walk

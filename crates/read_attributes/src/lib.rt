@@ -10,4 +10,4 @@
 
 mod field;
 
-pub use field::{Field, Step, is_empty, next_field};
+pub use field::{Field, is_empty, next_field};

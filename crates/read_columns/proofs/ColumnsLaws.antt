@@ -1,15 +1,17 @@
 -- Laws of the columns: one law serves all eight cuts, one says whose bounds pass, and one gives a written row's columns back.
 -- Assumes nothing.
 use Rattle.std.proofs.Common.{◌≡◌, ℕ, zero, suc, ◌+◌, ◌-◌, ◌<◌, ◌≤◌, Bool, true, false, cond, eqb, List, [], ◌∷◌, ◌++◌, length, get_or, drop, sym, refl, ap, ◌∙◌, ap₂, true≢false, add-zero, add-one, arith, length-append, length-drop, length-take, take_all, ne_eqb, le-leb, leb-true}
+use Rattle.std.specs.Prelude.{Ok, Err}
 use lib.ListN.{get_or-eq_default}
 use lib.Seq.{take-append_seam, drop-append-add}
 use Rattle.base_lists.specs.Bytes.{Every, Lacks, tab}
+use Rattle.base_refusals.specs.declared.Refusal.{Refusal}
+use Rattle.base_refusals.specs.declared.Refusal.TheVariants as refusal
 use Rattle.base_scan.specs.declared.place.Place.{Place}
 use Rattle.base_scan.specs.Find.{index, seek, found}
 use Rattle.base_scan.specs.Part.{text_at}
 use Rattle.base_words.proofs.SameLaws.{same_refl, same_is}
 use Rattle.read_columns.specs.declared.bounds.Bounds.{Bounds}
-use Rattle.read_columns.specs.declared.bounds.Indexed.TheVariants.{At, Refused}
 use Rattle.read_columns.specs.declared.column.Column.{Column}
 use Rattle.read_columns.specs.declared.column.Column.TheVariants as column
 use Rattle.read_columns.specs.Columns.{past_tab, ends, has_columns, indexed, listed, matches, is_own, place_in, column_text, row_of}
@@ -84,7 +86,7 @@ pub own_ends : (s : List ℕ) (b : Bounds) → is_own s b ≡ true → b ≡ end
 unfolding is_own indexed
 own_ends s b e = go (has_columns s) e
   where
-    go : (t : Bool) → matches (cond t (At (ends s)) Refused) b ≡ true → b ≡ ends s
+    go : (t : Bool) → matches (cond t (Ok (ends s)) (Err refusal.Columns)) b ≡ true → b ≡ ends s
     go true p = ap of_list (sym (same_is (listed (ends s)) (listed b) p))
     go false p = absurd (true≢false (sym p))
 
@@ -99,21 +101,30 @@ unfolding is_own indexed
 own_none s b e = rw e
 
 -- what an index says of its line
-pub indexed_at : (s : List ℕ) {b : Bounds} → indexed s ≡ At b → (has_columns s ≡ true) × (b ≡ ends s)
+pub indexed_at : (s : List ℕ) {b : Bounds} → indexed s ≡ Ok b → (has_columns s ≡ true) × (b ≡ ends s)
 unfolding indexed
 indexed_at s {b} e = go (has_columns s) e
   where
-    go : (t : Bool) → cond t (At (ends s)) Refused ≡ At b → (t ≡ true) × (b ≡ ends s)
+    go : (t : Bool) → cond t (Ok (ends s)) (Err refusal.Columns) ≡ Ok b → (t ≡ true) × (b ≡ ends s)
     go true e = (refl, cc)
     go false e = absurd (let z : ◌≡◌ {A = ℕ} 0 1 = cc in omega arith)
 
-pub indexed_refused : (s : List ℕ) → indexed s ≡ Refused → has_columns s ≡ false
+pub indexed_refused : (s : List ℕ) {r : Refusal} → indexed s ≡ Err r → has_columns s ≡ false
 unfolding indexed
-indexed_refused s e = go (has_columns s) e
+indexed_refused s {r} e = go (has_columns s) e
   where
-    go : (t : Bool) → cond t (At (ends s)) Refused ≡ Refused → t ≡ false
+    go : (t : Bool) → cond t (Ok (ends s)) (Err refusal.Columns) ≡ Err r → t ≡ false
     go true e = absurd (let z : ◌≡◌ {A = ℕ} 0 1 = cc in omega arith)
     go false e = refl
+
+-- and it is refused for its columns alone
+pub indexed_reason : (s : List ℕ) {r : Refusal} → indexed s ≡ Err r → r ≡ refusal.Columns
+unfolding indexed
+indexed_reason s {r} e = go (has_columns s) e
+  where
+    go : (t : Bool) → cond t (Ok (ends s)) (Err refusal.Columns) ≡ Err r → r ≡ refusal.Columns
+    go true e = absurd (let z : ◌≡◌ {A = ℕ} 0 1 = cc in omega arith)
+    go false e = cc
 
 -- ── a column's place ──────────────────────────────────────────────────────────────────────────
 

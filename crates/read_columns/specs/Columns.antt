@@ -1,29 +1,15 @@
 -- The columns of a record: GFF3, Description of the Format (nine columns, split at tabs); RULES 3. Columns 1 to 8 end at the first eight
 -- tabs and may be empty; column 9 is the rest, further tabs included. Assumes nothing: these are definitions.
-use Rattle.std.specs.Prelude.{ℕ, zero, suc, ◌-◌, Bool, false, cond, List, [], ◌∷◌, ◌++◌, length, ◌==◌, nat_le}
+use Rattle.std.specs.Prelude.{ℕ, zero, suc, ◌-◌, Bool, false, cond, List, [], ◌∷◌, ◌++◌, length, ◌==◌, nat_le, Result, Ok, Err}
 use Rattle.base_lists.specs.Bytes.{tab}
+use Rattle.base_refusals.specs.declared.Refusal.{Refusal}
+use Rattle.base_refusals.specs.declared.Refusal.TheVariants as refusal
 use Rattle.base_scan.specs.declared.place.Place.{Place}
 use Rattle.base_scan.specs.Part.{text_at}
 use Rattle.base_words.specs.Same.{same}
 use Rattle.read_columns.specs.declared.bounds.Bounds.{Bounds}
-use Rattle.read_columns.specs.declared.bounds.Indexed.{Indexed}
-use Rattle.read_columns.specs.declared.bounds.Indexed.TheVariants.{At, Refused}
 use Rattle.read_columns.specs.declared.column.Column.{Column}
 use Rattle.read_columns.specs.declared.column.Column.TheVariants as column
-use Rattle.read_columns.specs.declared.column.ColumnRead.{ColumnRead}
-use Rattle.read_columns.specs.declared.column.ColumnRead.TheVariants as column_read
-
--- ── the number of each refusal (RULES 10), and 0 where there is none ──
-
--- fewer than eight tabs
-abbrev pub index_refusal : Indexed → ℕ
-index_refusal (At b) = 0
-index_refusal Refused = 1
-
--- not the line's own bounds
-abbrev pub column_refusal : ColumnRead → ℕ
-column_refusal (column_read.At place) = 0
-column_refusal column_read.Refused = 1
 
 -- ── the bounds of a line ──
 
@@ -52,8 +38,8 @@ abbrev pub has_columns : List ℕ → Bool
 has_columns s = nat_le (past_tab 8 s) (length s)
 
 -- the line's bounds; refused where it has fewer than eight tabs
-unfoldable pub indexed : List ℕ → Indexed
-indexed s = cond (has_columns s) (At (ends s)) Refused
+unfoldable pub indexed : List ℕ → Result Bounds Refusal
+indexed s = cond (has_columns s) (Ok (ends s)) (Err refusal.Columns)
 
 -- ── bounds that are offered ──
 
@@ -62,9 +48,9 @@ abbrev pub listed : Bounds → List ℕ
 listed b =
     b.reference_sequence_name_end ∷ b.source_end ∷ b.type_end ∷ b.start_end ∷ b.end_end ∷ b.score_end ∷ b.strand_end ∷ b.phase_end ∷ []
 
-abbrev pub matches : Indexed → Bounds → Bool
-matches Refused b = false
-matches (At a) b = same (listed a) (listed b)
+abbrev pub matches : Result Bounds Refusal → Bounds → Bool
+matches (Err r) b = false
+matches (Ok a) b = same (listed a) (listed b)
 
 -- whether these bounds are the line's own
 unfoldable pub is_own : List ℕ → Bounds → Bool
@@ -92,8 +78,8 @@ abbrev pub column_text : Column → List ℕ → List ℕ
 column_text c s = text_at (column_place c s) s
 
 -- refused where the bounds are not the line's own
-unfoldable pub column_at : Column → List ℕ → Bounds → ColumnRead
-column_at c s b = cond (is_own s b) (column_read.At (column_place c s)) column_read.Refused
+unfoldable pub column_at : Column → List ℕ → Bounds → Result Place Refusal
+column_at c s b = cond (is_own s b) (Ok (column_place c s)) (Err refusal.Columns)
 
 -- ── a row that is written ──
 

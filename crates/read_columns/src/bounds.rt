@@ -4,12 +4,13 @@ ghost use Rattle.std.specs.Int.Count.{count_trailing_zeros};
 ghost use Rattle.base_lists.specs.Bytes.{tab};
 ghost use Rattle.base_scan.specs.Find.{found};
 ghost use Rattle.base_scan.specs.Mask.{mask};
-ghost use Rattle.base_words.specs.Same.{same};
-ghost use Rattle.read_columns.specs.Columns.{ends, indexed, listed, is_own};
+ghost use Rattle.read_columns.specs.Columns.{ends, indexed, is_own};
 ghost use Rattle.read_columns.specs.Inner.Near.{near_ends};
 
+use base_refusals::Refusal;
+
 // Eight places, each one past its column's tab; column 9 is the rest.
-#[derive(Clone, Copy)]
+#[derive(Clone, Copy, Debug, PartialEq, Eq)]
 pub struct Bounds {
     pub reference_sequence_name_end: usize,
     pub source_end: usize,
@@ -19,13 +20,6 @@ pub struct Bounds {
     pub score_end: usize,
     pub strand_end: usize,
     pub phase_end: usize,
-}
-
-#[derive(Clone, Copy)]
-pub enum Indexed {
-    At(Bounds),
-    // Refusal 1: the line has fewer than eight tabs.
-    Refused,
 }
 
 // A mask without its lowest digit: LLVM makes two instructions of it, and a search for the next tab takes thirty.
@@ -104,41 +98,24 @@ fn cut(line: &[u8], near: Bounds) -> Bounds
 
 // The bounds of a line; refused, by number 1, where it has fewer than eight tabs. Eight tabs alone have nine empty columns. Where the
 // eight stand among the first 64 bytes, as they mostly do, one mask has them all.
-pub fn index(line: &[u8]) -> Indexed
+pub fn index(line: &[u8]) -> Result<Bounds, Refusal>
     ensures { result ≡ indexed line.now }
 {
     let near = near_ends(base_scan::marks(line, b'\t'));
     if near.phase_end <= 64 {
-        return Indexed::At(near);
+        return Ok(near);
     }
     let bounds = cut(line, near);
     if bounds.phase_end <= line.len() {
-        Indexed::At(bounds)
+        Ok(bounds)
     } else {
-        Indexed::Refused
+        Err(Refusal::Columns)
     }
-}
-
-// Whether none of the eight ends differs.
-fn same(a: Bounds, b: Bounds) -> bool
-    ensures { result ≡ same (listed a) (listed b) }
-{
-    (a.reference_sequence_name_end == b.reference_sequence_name_end)
-        & (a.source_end == b.source_end)
-        & (a.type_end == b.type_end)
-        & (a.start_end == b.start_end)
-        & (a.end_end == b.end_end)
-        & (a.score_end == b.score_end)
-        & (a.strand_end == b.strand_end)
-        & (a.phase_end == b.phase_end)
 }
 
 // Whether these are the line's own bounds: it has eight tabs, and none of the eight ends differs.
 pub fn own(line: &[u8], bounds: Bounds) -> bool
     ensures { result ≡ is_own line.now bounds }
 {
-    match index(line) {
-        Indexed::At(b) => same(b, bounds),
-        Indexed::Refused => false,
-    }
+    index(line) == Ok(bounds)
 }

@@ -4,9 +4,10 @@ ghost use Rattle.base_scan.specs.Part.{text_at};
 ghost use Rattle.read_columns.specs.Columns.{place_in, column_at};
 
 use super::bounds::Bounds;
+use base_refusals::Refusal;
 use base_scan::Place;
 
-#[derive(Clone, Copy)]
+#[derive(Clone, Copy, Debug, PartialEq, Eq)]
 pub enum Column {
     ReferenceSequenceName,
     Source,
@@ -18,13 +19,6 @@ pub enum Column {
     Phase,
     // The rest of the line, further tabs included.
     Attributes,
-}
-
-#[derive(Clone, Copy)]
-pub enum ColumnRead {
-    At(Place),
-    // Refusal 1.
-    Refused,
 }
 
 // Between two tabs: from one past the tab before to the column's own tab.
@@ -73,12 +67,12 @@ pub fn text_in<'a>(line: &'a [u8], bounds: Bounds, column: Column) -> &'a [u8]
 }
 
 // A raw column as a place in the line; refused, by number 1, where these are not the line's own bounds.
-pub fn column_at(line: &[u8], bounds: Bounds, column: Column) -> ColumnRead
+pub fn column_at(line: &[u8], bounds: Bounds, column: Column) -> Result<Place, Refusal>
     ensures { result ≡ column_at column line.now bounds }
 {
     if super::bounds::own(line, bounds) {
-        ColumnRead::At(place_in(column, bounds, line.len()))
+        Ok(place_in(column, bounds, line.len()))
     } else {
-        ColumnRead::Refused
+        Err(Refusal::Columns)
     }
 }

@@ -11,5 +11,5 @@
 mod bounds;
 mod column;
 
-pub use bounds::{Bounds, Indexed, index, own};
-pub use column::{Column, ColumnRead, column_at, place_in, text_in};
+pub use bounds::{Bounds, index, own};
+pub use column::{Column, column_at, place_in, text_in};

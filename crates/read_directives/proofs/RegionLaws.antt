@@ -1,4 +1,5 @@
 -- Laws of regions, and what a region of a given name, start and end reads back as. Assumes nothing.
+use Rattle.std.specs.Prelude.{Ok, Err}
 use Prim.Native.Nat.{ℕ, ◌+◌, ◌≤◌, ◌<◌}
 use native.Mathlib.Omega.{arith}
 use mathlib.Core.Path.{◌≡◌, refl, sym}
@@ -7,23 +8,23 @@ use mathlib.Core.Bool.{false}
 use mathlib.Core.List.{List, [], ◌∷◌, ◌++◌, append_assoc}
 use lib.ListN.{length, length-append}
 use Rattle.base_lists.specs.Bytes.{Every, sp}
+use Rattle.base_refusals.specs.declared.Refusal.TheVariants as refusal
 use Rattle.base_scan.specs.Find.{index}
 use Rattle.base_scan.specs.Part.{text_at}
 use Rattle.base_words.specs.Word.{is_space}
 use Rattle.write_decimals.specs.Decimal.{decimal}
 use Rattle.read_numbers.specs.Number.{most64}
 use Rattle.write_decimals.proofs.DecimalLaws.{decimal_some, region_position_decimal}
-use Rattle.read_directives.specs.declared.sequence_region.RegionRead.TheVariants.{Is, Refused}
 use Rattle.read_directives.specs.SequenceRegion.{end_of, start_of, region_of}
 use Rattle.read_directives.specs.Then.{word_then}
 use Rattle.read_directives.proofs.WordLaws.{next_then, word_first, word_behind, word_last, decimal_inked}
 
-pub region_none : (s : List ℕ) → length s ≡ 0 → Refused 6 ≡ region_of s
+pub region_none : (s : List ℕ) → length s ≡ 0 → Err refusal.Empty ≡ region_of s
 unfolding region_of
 region_none [] e = refl
 region_none (x ∷ s) e = absurd (omega arith)
 
-pub region_is : (s : List ℕ) → length s ≢ 0 → region_of s ≡ word_then (Refused 10) s 0 (start_of s)
+pub region_is : (s : List ℕ) → length s ≢ 0 → region_of s ≡ word_then (Err refusal.RegionNameMissing) s 0 (start_of s)
 unfolding region_of
 region_is [] h = absurd (h refl)
 region_is (x ∷ s) h = refl
@@ -32,7 +33,7 @@ region_is (x ∷ s) h = refl
 
 pub region_reads : (name : List ℕ) (start end : ℕ) → Every (λ x. is_space x ≡ false) name → 0 < length name
     → 1 ≤ start → start ≤ most64 → 1 ≤ end → end ≤ most64
-    → (region_of (name ++ sp ∷ (decimal start ++ sp ∷ decimal end)) ≡ Is (record { name = record { start = 0; end = length name }; start = start; end = end }))
+    → (region_of (name ++ sp ∷ (decimal start ++ sp ∷ decimal end)) ≡ Ok (record { name = record { start = 0; end = length name }; start = start; end = end }))
     × (text_at (record { start = 0; end = length name }) (name ++ sp ∷ (decimal start ++ sp ∷ decimal end)) ≡ name)
 unfolding start_of end_of index is_space
 region_reads name start end inked some h g k l =

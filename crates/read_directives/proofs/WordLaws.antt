@@ -1,4 +1,5 @@
 -- Laws of words in a text: what `word_then` comes to, and where the next word stands. Assumes nothing.
+use Rattle.std.specs.Prelude.{Bool, true, cond, eqb, Option, None, Some, Result, Ok, Err, ok_or}
 use Prim.Native.Nat.{ℕ, ◌+◌, ◌-◌, ◌<◌}
 use native.Mathlib.Omega.{arith}
 use mathlib.Core.Path.{◌≡◌, refl, sym, ap, ◌∙◌}
@@ -7,8 +8,9 @@ use mathlib.Core.Bool.{false}
 use mathlib.Core.List.{List, [], ◌∷◌, ◌++◌, append-nil}
 use lib.ListN.{length, drop, length-append}
 use lib.Seq.{drop_at, drop-drop, drop-append_seam, take_at}
-use borrow.Author.Tests.{eq-eqb, ne_eqb}
+use borrow.Author.Tests.{ne_eqb}
 use Rattle.base_lists.specs.Bytes.{Every, sp}
+use Rattle.base_refusals.specs.declared.Refusal.{Refusal}
 use Rattle.base_scan.specs.declared.place.Place.{Place}
 use Rattle.base_scan.specs.Find.{index}
 use Rattle.base_scan.specs.Part.{text_at}
@@ -16,21 +18,41 @@ use Rattle.base_words.specs.Word.{is_space, is_ink, space, ink, word}
 use Rattle.base_scan.proofs.FindLaws.{index_append, seek_at}
 use Rattle.write_decimals.specs.Decimal.{decimal}
 use Rattle.write_decimals.proofs.DecimalLaws.{decimal_fails}
+use Rattle.read_numbers.specs.Number.{number_then}
 use Rattle.read_directives.specs.Then.{word_then}
 
 -- ── what `word_then` comes to ──────────────────────────────────────────────────────────────────
 
-module _ {A : Type 0} (refused : A) (s : List ℕ) (at : ℕ) (f : Place → A) {place : Place} (is : place ≡ word s at) where
+module _ {A : Type 0} (r : Refusal) (s : List ℕ) (at : ℕ) (f : Place → Result A Refusal) {v : Result Place Refusal}
+    (is : v ≡ word_then (Err r) s at (λ word. Ok word)) where
   -- no word is left
-  pub word_none : place.start ≡ length s → refused ≡ word_then refused s at f
+  pub word_none : {e : Refusal} → v ≡ Err e → Err e ≡ word_then (Err r) s at f
   unfolding word_then
-  word_none e = rw (eq-eqb (word s at).start (length s) (ap (λ (p : Place). p.start) (sym is) ∙ e))
+  word_none {e} k = go (eqb (word s at).start (length s)) (sym is ∙ k)
+    where
+      go : (b : Bool) → cond b (Err r) (Ok (word s at)) ≡ Err e → Err e ≡ cond b (Err r) (f (word s at))
+      go true g = cc
+      go false g = cc
 
   -- a word
-  pub word_some : {r : A} → place.start ≢ length s → r ≡ f place → r ≡ word_then refused s at f
+  pub word_some : {place : Place} → v ≡ Ok place → f place ≡ word_then (Err r) s at f
   unfolding word_then
-  word_some h e =
-      rw (ne_eqb (word s at).start (length s) (λ g. h (ap (λ (p : Place). p.start) is ∙ g))) (e ∙ ap f is)
+  word_some {place} k = go (eqb (word s at).start (length s)) (sym is ∙ k)
+    where
+      go : (b : Bool) → cond b (Err r) (Ok (word s at)) ≡ Ok place → f place ≡ cond b (Err r) (f (word s at))
+      go true g = cc
+      go false g = cc
+
+-- what a number that is asked for comes to
+pub number_some : {A : Type 0} (o : Option ℕ) (r : Refusal) (f : ℕ → Result A Refusal) {n : ℕ}
+    → ok_or o r ≡ Ok n → f n ≡ number_then (Err r) o f
+number_some (Some m) r f e = cc
+number_some None r f e = cc
+
+pub number_none : {A : Type 0} (o : Option ℕ) (r : Refusal) (f : ℕ → Result A Refusal) {e : Refusal}
+    → ok_or o r ≡ Err e → Err e ≡ number_then (Err r) o f
+number_none (Some m) r f e = cc
+number_none None r f e = cc
 
 -- ── the next word ─────────────────────────────────────────────────────────────────────────────
 
@@ -42,7 +64,9 @@ pub record Next (s : List ℕ) (at : ℕ) (w : List ℕ) (place : Place) : Type 
 
 pub next_then : {A : Type 0} (refused : A) (f : Place → A) {s : List ℕ} {at : ℕ} {w : List ℕ} {place : Place} {r : A}
     → Next s at w place → r ≡ f place → r ≡ word_then refused s at f
-next_then refused f {s} {at} n e = word_some refused s at f n.is n.some e
+unfolding word_then
+next_then refused f {s} {at} n e =
+    rw (ne_eqb (word s at).start (length s) (λ g. n.some (ap (λ (p : Place). p.start) n.is ∙ g))) (e ∙ ap f n.is)
 
 -- a word begins where it is looked for
 ink_first : (w rest : List ℕ) → Every (λ x. is_space x ≡ false) w → 0 < length w → index is_ink (w ++ rest) ≡ 0

@@ -2,6 +2,8 @@
 ghost use Rattle.std.specs.Prelude.{◌≡◌};
 ghost use Rattle.read_directives.specs.GenomeBuild.{build_of};
 
+use super::words::word;
+use base_refusals::Refusal;
 use base_scan::Place;
 
 // Where source and name stand in the text.
@@ -11,27 +13,14 @@ pub struct GenomeBuild {
     pub name: Place,
 }
 
-#[derive(Clone, Copy)]
-pub enum BuildRead {
-    Is(GenomeBuild),
-    // 6, 15 or 16.
-    Refused(u32),
-}
-
-// A build: source, name. Extra words are ignored.
-pub fn parse_genome_build(text: &[u8]) -> BuildRead
+// A build: source, name. Extra words are ignored. The refusals are 6, 15 and 16.
+pub fn parse_genome_build(text: &[u8]) -> Result<GenomeBuild, Refusal>
     ensures { result ≡ build_of text.now }
 {
-    if text.len() == 0 {
-        return BuildRead::Refused(6);
+    if text.is_empty() {
+        return Err(Refusal::Empty);
     }
-    let source = base_words::next_word(text, 0);
-    if source.start == text.len() {
-        return BuildRead::Refused(15);
-    }
-    let name = base_words::next_word(text, source.end);
-    if name.start == text.len() {
-        return BuildRead::Refused(16);
-    }
-    BuildRead::Is(GenomeBuild { source, name })
+    let source = word(text, 0, Refusal::BuildSourceMissing)?;
+    let name = word(text, source.end, Refusal::BuildNameMissing)?;
+    Ok(GenomeBuild { source, name })
 }

@@ -9,6 +9,7 @@
 
 mod genome_build;
 mod sequence_region;
+mod words;
 
-pub use genome_build::{BuildRead, GenomeBuild, parse_genome_build};
-pub use sequence_region::{RegionRead, SequenceRegion, parse_sequence_region};
+pub use genome_build::{GenomeBuild, parse_genome_build};
+pub use sequence_region::{SequenceRegion, parse_sequence_region};

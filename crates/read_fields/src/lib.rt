@@ -16,7 +16,7 @@ mod texts;
 
 pub use phase::phase_at;
 pub use position::{end_at, start_at};
-pub use record::{Record, RecordRead, Score, record_of};
-pub use score::{ScoreRead, score_at};
+pub use record::{Record, record_of};
+pub use score::score_at;
 pub use strand::strand_at;
 pub use texts::{reference_sequence_name, source, ty};

@@ -4,67 +4,38 @@ ghost use Rattle.read_columns.specs.Columns.{ends};
 ghost use Rattle.read_fields.specs.Fields.{record_of};
 ghost use Rattle.read_fields.specs.Inner.ByBounds.{fields_in};
 
-use super::score::ScoreRead;
+use base_refusals::Refusal;
 use base_scan::Place;
-use read_columns::{Bounds, Column, Indexed};
-use read_tokens::{Phase, PhaseRead, PositionRead, Strand, StrandRead};
-
-#[derive(Clone, Copy)]
-pub enum Score {
-    // The exact byte `.`.
-    Missing,
-    // Where the token stands in the line.
-    Token(Place),
-}
+use read_columns::{Bounds, Column};
+use read_tokens::{Phase, Strand};
 
 #[derive(Clone, Copy)]
 pub struct Record {
     pub bounds: Bounds,
     pub start: u64,
     pub end: u64,
-    pub score: Score,
+    // Where the token stands in the line; none where the column is the exact byte `.`.
+    pub score: Option<Place>,
     pub strand: Strand,
     pub phase: Phase,
 }
 
-#[derive(Clone, Copy)]
-pub enum RecordRead {
-    Is(Record),
-    // 1, 2, 17, 3 or 4.
-    Refused(u32),
-}
-
 // Columns 4 to 8 of a record whose bounds these are. Refusals, in order: 2 (start, then end), 17, 3, 4.
-fn fields_in(line: &[u8], bounds: Bounds) -> RecordRead
+fn fields_in(line: &[u8], bounds: Bounds) -> Result<Record, Refusal>
     requires { bounds ≡ ends line.now }
     ensures { result ≡ fields_in line.now }
 {
     let start_text = read_columns::text_in(line, bounds, Column::Start);
-    let start = match read_tokens::position_of(start_text) {
-        PositionRead::Is(n) => n,
-        PositionRead::Refused(n) => return RecordRead::Refused(n),
-    };
+    let start = read_tokens::position_of(start_text)?;
     let end_text = read_columns::text_in(line, bounds, Column::End);
-    let end = match read_tokens::position_of(end_text) {
-        PositionRead::Is(n) => n,
-        PositionRead::Refused(n) => return RecordRead::Refused(n),
-    };
-    let score = match super::score::score_in(line, bounds) {
-        ScoreRead::Missing => Score::Missing,
-        ScoreRead::Token(place) => Score::Token(place),
-        ScoreRead::Refused(n) => return RecordRead::Refused(n),
-    };
+    let end = read_tokens::position_of(end_text)?;
+    let score_place = read_columns::place_in(Column::Score, bounds, line.len());
+    let score = super::score::score_of(line, score_place)?;
     let strand_text = read_columns::text_in(line, bounds, Column::Strand);
-    let strand = match read_tokens::strand_of(strand_text) {
-        StrandRead::Is(x) => x,
-        StrandRead::Refused(n) => return RecordRead::Refused(n),
-    };
+    let strand = read_tokens::strand_of(strand_text)?;
     let phase_text = read_columns::text_in(line, bounds, Column::Phase);
-    let phase = match read_tokens::phase_of(phase_text) {
-        PhaseRead::Is(x) => x,
-        PhaseRead::Refused(n) => return RecordRead::Refused(n),
-    };
-    RecordRead::Is(Record {
+    let phase = read_tokens::phase_of(phase_text)?;
+    Ok(Record {
         bounds,
         start,
         end,
@@ -76,11 +47,9 @@ fn fields_in(line: &[u8], bounds: Bounds) -> RecordRead
 
 // The bounds of a line and its columns 4 to 8. Refusals, in order: 1, 2 (start, then end), 17, 3, 4, as the readers of each column have
 // them.
-pub fn record_of(line: &[u8]) -> RecordRead
+#[tactic(auto, using(crate::proofs::RecordLaws::records_told))]
+pub fn record_of(line: &[u8]) -> Result<Record, Refusal>
     ensures { result ≡ record_of line.now }
 {
-    match read_columns::index(line) {
-        Indexed::At(bounds) => fields_in(line, bounds),
-        Indexed::Refused => RecordRead::Refused(1),
-    }
+    fields_in(line, read_columns::index(line)?)
 }

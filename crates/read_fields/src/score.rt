@@ -1,43 +1,33 @@
 // Column 6: the token stays text.
 ghost use Rattle.std.specs.Prelude.{◌≡◌};
-ghost use Rattle.read_fields.specs.Fields.{score_at};
-ghost use Rattle.read_fields.specs.Inner.ByBounds.{score_in};
+ghost use Rattle.base_scan.specs.Part.{text_at};
+ghost use Rattle.read_fields.specs.Fields.{score_of, score_at};
 
+use base_refusals::Refusal;
 use base_scan::Place;
 use read_columns::{Bounds, Column};
 
-#[derive(Clone, Copy)]
-pub enum ScoreRead {
-    // The exact byte `.`.
-    Missing,
-    // A token by RULES 4.2, and where it stands in the line.
-    Token(Place),
-    // 1 or 17.
-    Refused(u32),
-}
-
-// Column 6 by these bounds: `.` is missing, else the token, else 17.
-pub(crate) fn score_in(line: &[u8], bounds: Bounds) -> ScoreRead
-    ensures { result ≡ score_in line.now bounds }
+// The score that stands at a place: none for `.`, else the place of the token, else 17.
+#[tactic(auto, unfolding(crate::specs::Fields::score_of))]
+pub(crate) fn score_of(line: &[u8], place: Place) -> Result<Option<Place>, Refusal>
+    ensures { result ≡ score_of (text_at place line.now) place }
 {
-    let token = read_columns::text_in(line, bounds, Column::Score);
+    let token = base_scan::text(line, place);
     if base_words::is_dot(token) {
-        return ScoreRead::Missing;
+        return Ok(None);
     }
     if read_score::is_score(token) {
-        ScoreRead::Token(read_columns::place_in(Column::Score, bounds, line.len()))
+        Ok(Some(place))
     } else {
-        ScoreRead::Refused(17)
+        Err(Refusal::Score)
     }
 }
 
-// Column 6. Refusals, in order: 1, not the line's own bounds; 17, no score token. An empty column is 17: only the exact `.` is missing.
-pub fn score_at(line: &[u8], bounds: Bounds) -> ScoreRead
+// Column 6: where its token, by RULES 4.2, stands in the line; none for the exact byte `.`. Refusals, in order: 1, not the line's own
+// bounds; 17, no score token. An empty column is 17: only the exact `.` is missing.
+#[tactic(auto, unfolding(crate::specs::Fields::score_at))]
+pub fn score_at(line: &[u8], bounds: Bounds) -> Result<Option<Place>, Refusal>
     ensures { result ≡ score_at line.now bounds }
 {
-    if read_columns::own(line, bounds) {
-        score_in(line, bounds)
-    } else {
-        ScoreRead::Refused(1)
-    }
+    score_of(line, read_columns::column_at(line, bounds, Column::Score)?)
 }

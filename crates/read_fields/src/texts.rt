@@ -5,22 +5,23 @@ ghost use Rattle.read_columns.specs.declared.column.Column.TheVariants.{Referenc
 ghost use Rattle.read_columns.specs.Columns.{column_text};
 ghost use Rattle.read_fields.specs.Fields.{text_reasons};
 
-use base_buffer::Written;
+use base_buffer::WriteError;
 use read_columns::{Bounds, Column};
 
-fn text_at(line: &[u8], bounds: Bounds, column: Column, out: &mut [u8]) -> Written
+fn text_at(line: &[u8], bounds: Bounds, column: Column, out: &mut [u8]) -> Result<usize, WriteError>
     ensures { Wrote (text_reasons line.now bounds)
         (decoded (column_text column line.now)) out.old out.new result }
 {
-    if read_columns::own(line, bounds) {
-        percent_decode::decode(read_columns::text_in(line, bounds, column), out)
-    } else {
-        Written::Refused(1)
-    }
+    let place = read_columns::column_at(line, bounds, column)?;
+    percent_decode::decode(base_scan::text(line, place), out)
 }
 
 // Column 1, decoded at the start of a buffer. Refusals, in order: 1, not the line's own bounds; 22, with the length needed.
-pub fn reference_sequence_name(line: &[u8], bounds: Bounds, out: &mut [u8]) -> Written
+pub fn reference_sequence_name(
+    line: &[u8],
+    bounds: Bounds,
+    out: &mut [u8],
+) -> Result<usize, WriteError>
     ensures { Wrote (text_reasons line.now bounds)
         (decoded (column_text ReferenceSequenceName line.now)) out.old out.new result }
 {
@@ -28,7 +29,7 @@ pub fn reference_sequence_name(line: &[u8], bounds: Bounds, out: &mut [u8]) -> W
 }
 
 // Column 2, likewise.
-pub fn source(line: &[u8], bounds: Bounds, out: &mut [u8]) -> Written
+pub fn source(line: &[u8], bounds: Bounds, out: &mut [u8]) -> Result<usize, WriteError>
     ensures { Wrote (text_reasons line.now bounds)
         (decoded (column_text Source line.now)) out.old out.new result }
 {
@@ -36,7 +37,7 @@ pub fn source(line: &[u8], bounds: Bounds, out: &mut [u8]) -> Written
 }
 
 // Column 3, likewise.
-pub fn ty(line: &[u8], bounds: Bounds, out: &mut [u8]) -> Written
+pub fn ty(line: &[u8], bounds: Bounds, out: &mut [u8]) -> Result<usize, WriteError>
     ensures { Wrote (text_reasons line.now bounds)
         (decoded (column_text Ty line.now)) out.old out.new result }
 {

@@ -1,18 +1,19 @@
 -- The attributes of column 9 on the sheet, from a cursor on. Assumes nothing.
 use Prim.Native.Nat.{ℕ, zero, suc, ◌+◌, ◌-◌, ◌*◌, ◌≤◌, ◌<◌}
 use native.Mathlib.Omega.{arith}
-use mathlib.Core.Path.{◌≡◌, refl, ap}
+use mathlib.Core.Path.{◌≡◌, refl, sym, ap, ◌∙◌}
+use mathlib.Core.Logic.{inl, inr}
 use mathlib.Core.Bool.{true, false, true≢false}
 use mathlib.Core.List.{List, [], ◌∷◌, flat_map}
 use mathlib.Core.Option.{Option, none, some}
 use lib.ListN.{length, length-append}
 use Rattle.base_scan.specs.Part.{text_at}
 use Rattle.read_attributes.specs.declared.field.Field.{Field}
-use Rattle.read_attributes.specs.declared.field.Step.{Step}
-use Rattle.read_attributes.specs.declared.field.Step.TheVariants as step
+use Rattle.std.specs.Prelude.{Option as Optional, Some, None, Result, Ok, Err}
+use Rattle.base_refusals.specs.declared.Refusal.{Refusal}
 use Rattle.read_attributes.specs.Attributes.{Attribute, Walk, done, refused, attribute, attributes, and_before, walk_from, walk, values}
 use Rattle.read_attributes.specs.Step.{next_field}
-use Rattle.read_attributes.proofs.WalkLaws.{Hands, Meets, field_meets, walk_clipped}
+use Rattle.read_attributes.proofs.WalkLaws.{Hands, Leads, Meets, field_meets, walk_clipped}
 use Rattle.percent_coding.specs.Percent.{decoded}
 use Rattle.percent_coding.proofs.PercentLaws.{length_decoded}
 use Rattle.sheet_form.specs.Sheet.{section_of, counted_of, attribute_of}
@@ -70,6 +71,12 @@ pub refused_stuck : stuck (attributes refused) ≡ true
 unfolding attributes
 refused_stuck = refl
 
+-- none, where the walk has ended and is not refused
+pub got_ended : (s : List ℕ) (at : ℕ) → Leads s at None → stuck (attributes (walk_from s at)) ≡ false
+    → got (attributes (walk_from s at)) ≡ []
+got_ended s at (inl e) h = rw (e, got_done)
+got_ended s at (inr e) h = absurd (true≢false (sym refused_stuck ∙ (rw e at h)))
+
 -- ── bounds ────────────────────────────────────────────────────────────────────────────────────
 
 attribute_few : (tag value : List ℕ) → length (attribute_of (attribute tag value)) ≤ 12 + length tag + 4 * length value
@@ -87,12 +94,12 @@ unfolding attributes flat_map
 rest_few zero s at h = absurd (omega arith)
 rest_few (suc n) s at h = go (next_field s at) (field_meets s at) (λ next l. rest_few n s next (omega arith))
   where
-    go : (r : Step) → Meets s at r
+    go : (r : Result (Optional Field) Refusal) → Meets s at r
         → ((next : ℕ) → length s + 1 - next < length s + 1 - at → length (rest (walk_from s next)) ≤ 6 * (length s + 1 - next))
         → length (rest (walk_from s at)) ≤ 6 * (length s + 1 - at)
-    go step.Done m more = rw m (omega arith)
-    go step.Refused m more = rw m (omega arith)
-    go (step.Is field) m more =
+    go (Ok None) m more = rw m (omega arith)
+    go (Err r) m more = rw m.1 (omega arith)
+    go (Ok (Some field)) m more =
         let t = text_at field.tag s in
         let v = text_at field.value s in
         let behind = field.value.end + 1 in

@@ -1,24 +1,15 @@
 // A line admitted: what refuses it, or its numbers and its bounds. No text is decoded, and nothing of the sheet is measured.
-ghost use Rattle.std.specs.Prelude.{◌≡◌};
-ghost use Rattle.read_fields.specs.declared.record.RecordRead.TheVariants.{Is};
+ghost use Rattle.std.specs.Prelude.{◌≡◌, Ok};
 ghost use Rattle.read_fields.specs.Fields.{record_of};
 ghost use Rattle.read_attributes.specs.Attributes.{attributes, walk};
 ghost use Rattle.read_judge.specs.Judge.{stuck, judged, numbers_judged};
 ghost use Rattle.read_judge.specs.Survey.{admitted};
 ghost use Rattle.read_judge.specs.Inner.Fields.{admit_fields};
 
-use super::judging::{Numbers, NumbersRead};
+use super::judging::Numbers;
+use base_refusals::Refusal;
 use read_columns::{Bounds, Column};
-use read_fields::{Record, RecordRead};
-
-// What laying the sheet begins with.
-#[derive(Clone, Copy)]
-pub enum Admitted {
-    // The numbers, and the line's bounds.
-    Is(Numbers, Bounds),
-    // As `Judged`.
-    Refused(u32),
-}
+use read_fields::Record;
 
 // Whether the walk over column 9 is refused: text is left without `=`. No walk is needed to tell: the last `=` stands in the last
 // attribute, so there has to be one, and at most a `;` behind its value.
@@ -37,36 +28,31 @@ fn is_stuck(column: &[u8]) -> bool
 }
 
 // The numbers of a record that was read, where column 9 does not refuse them. Refusal 5.
-fn admit_fields(line: &[u8], read: Record) -> Admitted
-    requires { record_of line.now ≡ Is read }
+fn admit_fields(line: &[u8], read: Record) -> Result<(Numbers, Bounds), Refusal>
+    requires { record_of line.now ≡ Ok read }
     ensures { result ≡ admit_fields line.now }
 {
     let bounds = read.bounds;
     if is_stuck(read_columns::text_in(line, bounds, Column::Attributes)) {
-        return Admitted::Refused(5);
+        return Err(Refusal::Attribute);
     }
-    Admitted::Is(super::judging::numbers_in(read), bounds)
+    Ok((super::judging::numbers_in(read), bounds))
 }
 
 // The numbers and the bounds of a line, or what refuses it, as `survey` has them.
-pub fn admit(line: &[u8]) -> Admitted
+pub fn admit(line: &[u8]) -> Result<(Numbers, Bounds), Refusal>
     ensures { result ≡ admitted line.now }
 {
     if base_buffer::MOST_LINE < line.len() {
-        return Admitted::Refused(24);
+        return Err(Refusal::TooLong);
     }
-    match read_fields::record_of(line) {
-        RecordRead::Is(read) => admit_fields(line, read),
-        RecordRead::Refused(n) => Admitted::Refused(n),
-    }
+    admit_fields(line, read_fields::record_of(line)?)
 }
 
 // The numbers of a line, or what refuses it, as `judge` has them.
-pub fn judge_numbers(line: &[u8]) -> NumbersRead
+pub fn judge_numbers(line: &[u8]) -> Result<Numbers, Refusal>
     ensures { result ≡ numbers_judged (judged line.now) }
 {
-    match admit(line) {
-        Admitted::Is(numbers, _) => NumbersRead::Is(numbers),
-        Admitted::Refused(n) => NumbersRead::Refused(n),
-    }
+    let (numbers, _) = admit(line)?;
+    Ok(numbers)
 }

@@ -12,12 +12,11 @@ ghost use Rattle.read_judge.specs.Survey.{surveyed};
 ghost use Rattle.read_judge.specs.Inner.Fields.{numbers_in};
 ghost use Rattle.read_judge.specs.Inner.Size.{texts_length};
 
-use super::admitting::Admitted;
-use read_attributes::Step;
+use base_refusals::Refusal;
 use read_columns::{Bounds, Column};
 use read_fields::Record;
 use read_tokens::{Phase, Strand};
-use read_values::{NextValue, ValueCursor};
+use read_values::ValueCursor;
 
 // What goes beside the sheet.
 #[derive(Clone, Copy)]
@@ -28,31 +27,6 @@ pub struct Numbers {
     pub phase: Phase,
 }
 
-#[derive(Clone, Copy)]
-pub enum Judged {
-    // The numbers, and the length of the sheet.
-    Is(Numbers, usize),
-    // 24, 1, 2, 17, 3, 4 or 5.
-    Refused(u32),
-}
-
-// What laying the sheet takes besides.
-#[derive(Clone, Copy)]
-pub enum Surveyed {
-    // The numbers, the line's bounds, and the length of the sheet.
-    Is(Numbers, Bounds, usize),
-    // As `Judged`.
-    Refused(u32),
-}
-
-// The numbers alone.
-#[derive(Clone, Copy)]
-pub enum NumbersRead {
-    Is(Numbers),
-    // As `Judged`.
-    Refused(u32),
-}
-
 // How long the values of an attribute are on the sheet, with their count.
 fn values_len(value: &[u8]) -> usize
     requires { length value.now ≤ most_line }
@@ -60,15 +34,11 @@ fn values_len(value: &[u8]) -> usize
 {
     let mut n: usize = 4;
     let mut cursor = ValueCursor::new();
-    loop {
-        match read_values::next_value(value, cursor) {
-            NextValue::Is(place, next) => {
-                n += 4 + percent_decode::decoded_len(base_scan::text(value, place));
-                cursor = next;
-            }
-            NextValue::Done => return n,
-        }
+    while let Some((place, next)) = read_values::next_value(value, cursor) {
+        n += 4 + percent_decode::decoded_len(base_scan::text(value, place));
+        cursor = next;
     }
+    n
 }
 
 // How long an attribute is on the sheet. One that is known to have neither a percent sign nor a `,` has one value, and both texts as they
@@ -94,25 +64,18 @@ fn attributes_len(column: &[u8]) -> usize
     let mut at = 0;
     let mut percent = base_scan::find(column, 0, b'%');
     let mut comma = base_scan::find(column, 0, b',');
-    loop {
-        match read_attributes::next_field(column, at) {
-            Step::Is(field) => {
-                let tag = field.tag;
-                let value = field.value;
-                let end = value.end;
-                n += attribute_len(
-                    base_scan::text(column, tag),
-                    base_scan::text(column, value),
-                    (end <= percent) & (end <= comma),
-                );
-                percent = base_scan::find_on(column, percent, end, b'%');
-                comma = base_scan::find_on(column, comma, end, b',');
-                at = field.next;
-            }
-            Step::Done => return n,
-            Step::Refused => return n,
-        }
+    while let Some(field) = read_attributes::next_field(column, at).unwrap_or(None) {
+        let end = field.value.end;
+        n += attribute_len(
+            base_scan::text(column, field.tag),
+            base_scan::text(column, field.value),
+            (end <= percent) & (end <= comma),
+        );
+        percent = base_scan::find_on(column, percent, end, b'%');
+        comma = base_scan::find_on(column, comma, end, b',');
+        at = field.next;
     }
+    n
 }
 
 // How long the first four sections are on the sheet.
@@ -154,26 +117,19 @@ fn sheet_len(line: &[u8], bounds: Bounds) -> usize
     texts_len(line, bounds) + 4 + attributes_len(rest)
 }
 
-// The line admitted, and its sheet measured. Refusals as those of `judge`.
-pub fn survey(line: &[u8]) -> Surveyed
+// The line admitted, and its sheet measured: its numbers, its bounds and the length of its sheet. Refusals as those of `judge`.
+pub fn survey(line: &[u8]) -> Result<(Numbers, Bounds, usize), Refusal>
     ensures { result ≡ surveyed line.now }
 {
-    match super::admitting::admit(line) {
-        Admitted::Is(numbers, bounds) => {
-            let length = sheet_len(line, bounds);
-            Surveyed::Is(numbers, bounds, length)
-        }
-        Admitted::Refused(n) => Surveyed::Refused(n),
-    }
+    let (numbers, bounds) = super::admitting::admit(line)?;
+    Ok((numbers, bounds, sheet_len(line, bounds)))
 }
 
 // The numbers of a line and the length of its sheet, without a buffer. Refusals, in order: 24, over 4,194,304 bytes; 1; 2 (start, then
 // end); 17; 3; 4; 5.
-pub fn judge(line: &[u8]) -> Judged
+pub fn judge(line: &[u8]) -> Result<(Numbers, usize), Refusal>
     ensures { result ≡ judged line.now }
 {
-    match survey(line) {
-        Surveyed::Is(numbers, _, length) => Judged::Is(numbers, length),
-        Surveyed::Refused(n) => Judged::Refused(n),
-    }
+    let (numbers, _, length) = survey(line)?;
+    Ok((numbers, length))
 }

@@ -12,6 +12,6 @@ mod admitting;
 mod judging;
 mod texts;
 
-pub use admitting::{Admitted, admit, judge_numbers};
-pub use judging::{Judged, Numbers, NumbersRead, Surveyed, judge, survey};
+pub use admitting::{admit, judge_numbers};
+pub use judging::{Numbers, judge, survey};
 pub use texts::score;

@@ -1,13 +1,13 @@
 -- Laws of `kind`, and what a comment or a directive of given texts reads back as. Assumes nothing.
-use Prim.Native.Nat.{ℕ, suc, ◌+◌, ◌-◌}
+use Prim.Native.Nat.{ℕ, suc, ◌+◌, ◌-◌, ◌<◌}
 use native.Mathlib.Omega.{arith}
 use mathlib.Core.Path.{◌≡◌, refl}
 use mathlib.Core.Logic.{◌≢◌}
 use mathlib.Core.Bool.{false, cond}
-use mathlib.Core.Option.{Option, none, some}
+use Rattle.std.specs.Prelude.{Option, None, Some}
 use mathlib.Core.List.{List, [], ◌∷◌, ◌++◌, append-nil}
 use lib.Dec.{eqb}
-use lib.ListN.{length, drop, get_or, length-append}
+use lib.ListN.{length, drop, get_or, length-append, get_or-eq_default}
 use lib.Seq.{take_at, take_all, drop-append-add}
 use borrow.Author.Tests.{eq-eqb, ne_eqb}
 use Rattle.base_lists.specs.Bytes.{Every}
@@ -26,6 +26,25 @@ unfolding kind
 kind_by [] = refl
 kind_by (x ∷ []) = refl
 kind_by (x ∷ y ∷ s) = refl
+
+-- the kind by what a match on the line tells of its bytes
+pub at_directive : (s : List ℕ) → get_or s 0 0 ≡ 35 → get_or s 1 0 ≡ 35 → Directive ≡ kind s
+at_directive s h g = rw (kind_by s, eq-eqb (get_or s 0 0) 35 h, eq-eqb (get_or s 1 0) 35 g)
+
+pub at_comment : (s : List ℕ) → get_or s 0 0 ≡ 35 → get_or s 1 0 ≢ 35 → Comment ≡ kind s
+at_comment s h g = rw (kind_by s, eq-eqb (get_or s 0 0) 35 h, ne_eqb (get_or s 1 0) 35 g)
+
+pub at_record : (s : List ℕ) → get_or s 0 0 ≢ 35 → Record ≡ kind s
+at_record s h = rw (kind_by s, ne_eqb (get_or s 0 0) 35 h)
+
+-- a line of one byte, and the empty one
+pub at_hash : (s : List ℕ) → length s < 2 → get_or s 0 0 ≡ 35 → Comment ≡ kind s
+at_hash s l h = at_comment s h (omega (arith, get_or-eq_default s 0 {n = 1} (omega arith)))
+
+pub at_end : (s : List ℕ) → length s < 1 → Record ≡ kind s
+at_end s l = at_record s (omega (arith, get_or-eq_default s 0 {n = 0} (omega arith)))
+
+pub ruleset kinds_told = (at_directive, at_comment, at_hash, at_record, at_end)
 
 pub kind_directive : (s : List ℕ) → kind (35 ∷ 35 ∷ s) ≡ Directive
 kind_directive s = kind_by (35 ∷ 35 ∷ s)
@@ -67,18 +86,18 @@ module _ (key : List ℕ) (inked : Every (λ x. is_space x ≡ false) key) where
         reads_value = v;
       }
 
-  pub directive_reads_alone : ReadsDirective (35 ∷ 35 ∷ key) key none
+  pub directive_reads_alone : ReadsDirective (35 ∷ 35 ∷ key) key None
   unfolding index
   directive_reads_alone =
       rw append-nil at
-      (key_reads [] none refl (rw (eq-eqb (2 + length key) (length (35 ∷ 35 ∷ (key ++ []))) (omega (arith, length-append key [])))))
+      (key_reads [] None refl (rw (eq-eqb (2 + length key) (length (35 ∷ 35 ∷ (key ++ []))) (omega (arith, length-append key [])))))
 
-  pub directive_reads : (text : List ℕ) → ReadsDirective (35 ∷ 35 ∷ (key ++ 32 ∷ text)) key (some text)
+  pub directive_reads : (text : List ℕ) → ReadsDirective (35 ∷ 35 ∷ (key ++ 32 ∷ text)) key (Some text)
   unfolding index is_space
   directive_reads text =
       let line : List ℕ = 35 ∷ 35 ∷ (key ++ 32 ∷ text) in
       let l = length-append key (32 ∷ text) in
       let n : 2 + length key + 1 ≡ suc (suc (length key + 1)) = omega arith in
       let d : drop (2 + length key + 1) line ≡ text = rw n (drop-append-add key (32 ∷ text) 1) in
-      key_reads (32 ∷ text) (some text) refl
+      key_reads (32 ∷ text) (Some text) refl
       (rw (ne_eqb (2 + length key) (length line) (omega arith), d, take_all (length line - (2 + length key + 1)) text (omega arith)))

@@ -2,17 +2,13 @@
 -- directive. Else starts with `#`: comment, text from byte 1. Else, the empty line included: record. Of a directive, after `##`, the key
 -- runs to the first ASCII white space; the value is what follows that byte, and is absent only if there was no such byte. Assumes nothing:
 -- these are definitions.
-use Rattle.std.specs.Prelude.{ℕ, ◌+◌, cond, List, [], ◌∷◌, eqb, length}
+use Rattle.std.specs.Prelude.{ℕ, ◌+◌, cond, List, [], ◌∷◌, eqb, length, Option, None, Some}
 use Rattle.base_lists.specs.Bytes.{hash}
+use Rattle.base_scan.specs.declared.place.Place.{Place}
 use Rattle.base_words.specs.Word.{space}
 use Rattle.read_kind.specs.declared.kind.Kind.{Kind}
 use Rattle.read_kind.specs.declared.kind.Kind.TheVariants.{Directive, Comment, Record}
-use Rattle.read_kind.specs.declared.comment.CommentText.{CommentText}
-use Rattle.read_kind.specs.declared.comment.CommentText.TheVariants as comment
-use Rattle.read_kind.specs.declared.directive.DirectiveText.{DirectiveText}
-use Rattle.read_kind.specs.declared.directive.DirectiveText.TheVariants as directive
-use Rattle.read_kind.specs.declared.directive.ValueText.{ValueText}
-use Rattle.read_kind.specs.declared.directive.ValueText.TheVariants as value
+use Rattle.read_kind.specs.declared.directive.KeyValue.{KeyValue}
 
 -- by the line's first two bytes
 unfoldable pub kind : List ℕ → Kind
@@ -26,24 +22,24 @@ kind_number Directive = 0
 kind_number Comment = 1
 kind_number Record = 2
 
--- the comment's text, from byte 1
-abbrev pub comment_by : Kind → List ℕ → CommentText
-comment_by Comment s = comment.At (record { start = 1; end = length s })
-comment_by Directive s = comment.NotOne
-comment_by Record s = comment.NotOne
+-- the comment's text, from byte 1; none, the line is no comment
+abbrev pub comment_by : Kind → List ℕ → Option Place
+comment_by Comment s = Some (record { start = 1; end = length s })
+comment_by Directive s = None
+comment_by Record s = None
 
-unfoldable pub comment_of : List ℕ → CommentText
+unfoldable pub comment_of : List ℕ → Option Place
 comment_of s = comment_by (kind s) s
 
 -- the value behind the white space at k, if there is any
-abbrev pub value_behind : List ℕ → ℕ → ValueText
-value_behind s k = cond (eqb k (length s)) value.Absent (value.At (record { start = k + 1; end = length s }))
+abbrev pub value_behind : List ℕ → ℕ → Option Place
+value_behind s k = cond (eqb k (length s)) None (Some (record { start = k + 1; end = length s }))
 
--- key and value, from byte 2
-abbrev pub directive_by : Kind → List ℕ → DirectiveText
-directive_by Directive s = directive.Is (record { start = 2; end = space 2 s }) (value_behind s (space 2 s))
-directive_by Comment s = directive.NotOne
-directive_by Record s = directive.NotOne
+-- key and value, from byte 2; none, the line is no directive
+abbrev pub directive_by : Kind → List ℕ → Option KeyValue
+directive_by Directive s = Some (record { key = record { start = 2; end = space 2 s }; value = value_behind s (space 2 s) })
+directive_by Comment s = None
+directive_by Record s = None
 
-unfoldable pub directive_of : List ℕ → DirectiveText
+unfoldable pub directive_of : List ℕ → Option KeyValue
 directive_of s = directive_by (kind s) s

@@ -10,6 +10,6 @@ mod comment;
 mod directive;
 mod kind;
 
-pub use comment::{CommentText, comment_of};
-pub use directive::{DirectiveText, ValueText, directive_of};
+pub use comment::comment_of;
+pub use directive::{KeyValue, directive_of};
 pub use kind::{Kind, kind_of};

@@ -19,13 +19,6 @@ pub struct Cursor {
     pub at: usize,
 }
 
-#[derive(Clone, Copy)]
-pub enum Next {
-    // The line without its ending, and the cursor behind it.
-    Line(Place, Cursor),
-    Done,
-}
-
 impl Cursor {
     // The start of a text.
     pub fn new() -> Self
@@ -39,21 +32,11 @@ impl Cursor {
 fn blank_at(text: &[u8], at: usize) -> bool
     ensures { result ≡ blank_at text.now at }
 {
-    if text.len() <= at {
-        return false;
-    }
-    let byte = text[at];
-    if byte == b'\r' {
-        let behind = at + 1;
-        if behind < text.len() {
-            return text[behind] == b'\n';
-        }
-    }
-    byte == b'\n'
+    matches!(text.get(at..), Some([b'\n', ..] | [b'\r', b'\n', ..]))
 }
 
 // The place behind the blank lines that stand at a cursor, where a line begins or the text ends; a cursor beyond the text stays. Of a line
-// that is not blank no more than two bytes are looked at.
+// that is not blank no more than two bytes are looked at. A test of two bytes stops it, so it is no `position`.
 pub fn past_blank(text: &[u8], from: usize) -> usize
     ensures { result ≡ past_blank text.now from }
 {
@@ -64,26 +47,27 @@ pub fn past_blank(text: &[u8], from: usize) -> usize
     at
 }
 
-// Where a line ends that has a byte and whose line feed is at `feed`.
+// Where a line ends whose line feed is at `feed`.
 fn chomp(text: &[u8], feed: usize) -> usize
-    requires { (0 < feed) × (feed ≤ length text.now) }
+    requires { feed ≤ length text.now }
     ensures { result ≡ line_end text.now feed }
 {
-    if text[feed - 1] == b'\r' {
-        return feed - 1;
+    match &text[..feed] {
+        [.., b'\r'] => feed - 1,
+        _ => feed,
     }
-    feed
 }
 
-// The next line from the cursor on. A line feed ends a line, and one carriage return just before it is removed; a last line without a
-// line feed keeps a carriage return. Blank lines, which have no byte then, are skipped, however many there are. A cursor beyond the text
-// counts as at its end; one between a carriage return and its line feed stands before a blank line.
-pub fn next_line(text: &[u8], cursor: Cursor) -> Next
+// The next line from the cursor on, without its ending, and the cursor behind it; none where no line is left. A line feed ends a line, and
+// one carriage return just before it is removed; a last line without a line feed keeps a carriage return. Blank lines, which have no byte
+// then, are skipped, however many there are. A cursor beyond the text counts as at its end; one between a carriage return and its line feed
+// stands before a blank line.
+pub fn next_line(text: &[u8], cursor: Cursor) -> Option<(Place, Cursor)>
     ensures { result ≡ next_line text.now cursor }
 {
     let at = past_blank(text, cursor.at);
     if text.len() <= at {
-        return Next::Done;
+        return None;
     }
     let feed = base_scan::find(text, at, b'\n');
     if feed == text.len() {
@@ -91,8 +75,8 @@ pub fn next_line(text: &[u8], cursor: Cursor) -> Next
             start: at,
             end: feed,
         };
-        return Next::Line(place, Cursor { at: feed });
+        return Some((place, Cursor { at: feed }));
     }
     let end = chomp(text, feed);
-    Next::Line(Place { start: at, end }, Cursor { at: feed + 1 })
+    Some((Place { start: at, end }, Cursor { at: feed + 1 }))
 }

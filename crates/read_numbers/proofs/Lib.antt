@@ -1,3 +1,4 @@
 pub mod NumberLaws
+pub mod PrefixLaws
 mod Samples
 mod Unique

@@ -12,8 +12,7 @@ use borrow.Author.Tests.{le-leb, lt-leb}
 use Rattle.base_lists.specs.Bytes.{Every, between}
 use Rattle.base_lists.proofs.BoolLaws.{and_right}
 use Rattle.base_lists.proofs.OrderLaws.{low_end, high_end}
-use Rattle.read_numbers.specs.declared.read.Number.{Number}
-use Rattle.read_numbers.specs.declared.read.Number.TheVariants.{Value, Invalid}
+use Rattle.std.specs.Prelude.{Option, Some, None}
 use Rattle.read_numbers.specs.Number.{is_digit, all_digits, some_digits, digits_value_after, digits_value, numeral}
 
 -- a test of two bounds, from the bounds
@@ -33,11 +32,11 @@ value_grows [] v = omega arith
 value_grows (x ∷ s) v = omega (arith, value_grows s (v * 10 + (x - 48)))
 
 -- the value that is read lies between the bounds
-pub numeral_bounds : {low high v : ℕ} (s : List ℕ) → numeral low high s ≡ Value v → (low ≤ v) × (v ≤ high)
+pub numeral_bounds : {low high v : ℕ} (s : List ℕ) → numeral low high s ≡ Some v → (low ≤ v) × (v ≤ high)
 unfolding numeral
 numeral_bounds {low} {high} {v} s e = go (some_digits s && between low high (digits_value s)) refl e
   where
-    go : (t : Bool) → (some_digits s && between low high (digits_value s)) ≡ t → cond t (Value (digits_value s)) Invalid ≡ Value v
+    go : (t : Bool) → (some_digits s && between low high (digits_value s)) ≡ t → cond t (Some (digits_value s)) None ≡ Some v
         → (low ≤ v) × (v ≤ high)
     go true p q =
         let same : digits_value s ≡ v = cc in
@@ -55,7 +54,7 @@ digits_each (x ∷ s) h = rw (h.0, digits_each s h.1)
 
 -- one or more digits whose value lies between the bounds are read
 pub numeral_value : {low high n : ℕ} (s : List ℕ) → 0 < length s → Every (λ x. is_digit x ≡ true) s → digits_value s ≡ n → low ≤ n
-    → n ≤ high → numeral low high s ≡ Value n
+    → n ≤ high → numeral low high s ≡ Some n
 unfolding numeral some_digits
 numeral_value [] some h e p q = absurd (omega arith)
 numeral_value (x ∷ s) some h e p q = rw (digits_each (x ∷ s) h, e, within p q)
@@ -64,12 +63,12 @@ numeral_value (x ∷ s) some h e p q = rw (digits_each (x ∷ s) h, e, within p 
 
 module _ (low high : ℕ) where
   -- what digits come to behind those that made v
-  pub onwards : ℕ → List ℕ → Number
-  onwards v s = cond (all_digits s && between low high (digits_value_after v s)) (Value (digits_value_after v s)) Invalid
+  pub onwards : ℕ → List ℕ → Option ℕ
+  onwards v s = cond (all_digits s && between low high (digits_value_after v s)) (Some (digits_value_after v s)) None
 
   module _ (s : List ℕ) (i : ℕ) where
     -- no digit at all
-    pub numeral_none : length s ≤ i → numeral low high (drop i s) ≡ Invalid
+    pub numeral_none : length s ≤ i → numeral low high (drop i s) ≡ None
     unfolding numeral some_digits
     numeral_none h = rw (drop_of_length-le s h)
 
@@ -81,12 +80,12 @@ module _ (low high : ℕ) where
     module _ (v : ℕ) where
       module _ (h : length s ≤ i) where
         -- behind the last
-        pub onwards_value : low ≤ v → v ≤ high → onwards v (drop i s) ≡ Value v
+        pub onwards_value : low ≤ v → v ≤ high → onwards v (drop i s) ≡ Some v
         unfolding all_digits digits_value_after onwards
         onwards_value p q = rw (drop_of_length-le s h, within p q)
 
         -- behind the last, where the value is too small
-        pub onwards_under : v < low → onwards v (drop i s) ≡ Invalid
+        pub onwards_under : v < low → onwards v (drop i s) ≡ None
         unfolding all_digits digits_value_after onwards
         onwards_under p = rw (drop_of_length-le s h, lt-leb low v p)
 
@@ -97,13 +96,13 @@ module _ (low high : ℕ) where
         onwards_next p q = rw (add-one, drop-cons s i 0 h, le-leb 48 (get_or s i 0) p, le-leb (get_or s i 0) 57 q)
 
         -- another byte
-        pub onwards_other : (get_or s i 0 < 48) ⊎ (57 < get_or s i 0) → onwards v (drop i s) ≡ Invalid
+        pub onwards_other : (get_or s i 0 < 48) ⊎ (57 < get_or s i 0) → onwards v (drop i s) ≡ None
         unfolding all_digits onwards
         onwards_other (inl p) = rw (drop-cons s i 0 h, lt-leb 48 (get_or s i 0) p)
         onwards_other (inr p) = rw (drop-cons s i 0 h, lt-leb (get_or s i 0) 57 p, and-false)
 
         -- a digit that makes the value too large
-        pub onwards_over : high < v * 10 + (get_or s i 0 - 48) → onwards v (drop i s) ≡ Invalid
+        pub onwards_over : high < v * 10 + (get_or s i 0 - 48) → onwards v (drop i s) ≡ None
         unfolding digits_value_after onwards
         onwards_over p =
             let w = v * 10 + (get_or s i 0 - 48) in

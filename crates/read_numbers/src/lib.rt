@@ -9,4 +9,4 @@
 
 mod read;
 
-pub use read::{Number, position, region_position, version_part};
+pub use read::{position, region_position, version_part};

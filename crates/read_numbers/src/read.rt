@@ -1,75 +1,61 @@
 // Numbers read: positions in columns 4 and 5, positions of a region, parts of a version.
-ghost use Rattle.std.specs.Prelude.{◌≡◌, ◌≤◌, drop};
+ghost use Rattle.std.specs.Prelude.{◌≡◌, ◌≤◌};
 ghost use Rattle.base_lists.specs.Bytes.{sans, plus};
 ghost use Rattle.base_scan.specs.Find.{is};
 ghost use Rattle.read_numbers.specs.Number.{numeral, position, region_position, version_part};
 
-// What a text is as a number. Which refusal an invalid one gives, the caller's place says.
-#[derive(Clone, Copy)]
-pub enum Number {
-    Value(u64),
-    Invalid,
-}
-
-// One or more digits from `at` on, whose value lies from `least` to `most`. Behind `safe` any digit may follow, so the exact bound,
-// which costs a division, is asked of numbers above it alone.
-fn digits(s: &[u8], at: usize, least: u64, most: u64) -> Number
+// One or more digits, whose value lies from `least` to `most`; else `None`. Which refusal that gives, the caller's place says. Behind
+// `safe` any digit may follow, so the exact bound, which costs a division, is asked of numbers above it alone.
+fn digits(s: &[u8], least: u64, most: u64) -> Option<u64>
     requires { 9 ≤ most }
-    ensures { result ≡ numeral least most (drop at s.now) }
+    ensures { result ≡ numeral least most s.now }
 {
-    if s.len() <= at {
-        return Number::Invalid;
+    if s.len() == 0 {
+        return None;
     }
     let safe = (most - 9) / 10;
     let mut v: u64 = 0;
-    let mut i = at;
-    while i < s.len() {
-        let b = s[i];
+    for &b in s {
         if b < 48 || b > 57 {
-            return Number::Invalid;
+            return None;
         }
         let d = (b - 48) as u64;
         if v > safe && v > (most - d) / 10 {
-            return Number::Invalid;
+            return None;
         }
         v = v * 10 + d;
-        i += 1;
     }
-    if v < least {
-        Number::Invalid
-    } else {
-        Number::Value(v)
-    }
+    if v < least { None } else { Some(v) }
 }
 
-// Where the digits begin: behind the one `+` that the text may begin with.
-fn past_plus(s: &[u8]) -> usize
-    ensures { drop result s.now ≡ sans (is plus) s.now }
+// The text behind the one `+` that it may begin with.
+fn past_plus<'a>(s: &'a [u8]) -> &'a [u8]
+    ensures { result.now ≡ sans (is plus) s.now }
 {
-    if s.len() == 0 {
-        return 0;
+    match s.strip_prefix(b"+") {
+        Some(rest) => rest,
+        None => s,
     }
-    if s[0] == b'+' { 1 } else { 0 }
 }
 
 // A position in column 4 or 5: one or more ASCII digits, value 1 to 18446744073709551615, any number of leading zeros. A sign is
 // refused, and so is the empty text.
-pub fn position(s: &[u8]) -> Number
+pub fn position(s: &[u8]) -> Option<u64>
     ensures { result ≡ position s.now }
 {
-    digits(s, 0, 1, 18446744073709551615)
+    digits(s, 1, 18446744073709551615)
 }
 
 // A position of a region, as the standard Rust reader takes it: `+8` is 8; `0`, `-0` and `+` are refused.
-pub fn region_position(s: &[u8]) -> Number
+pub fn region_position(s: &[u8]) -> Option<u64>
     ensures { result ≡ region_position s.now }
 {
-    digits(s, past_plus(s), 1, 18446744073709551615)
+    digits(past_plus(s), 1, 18446744073709551615)
 }
 
 // A part of a version: an optional `+` and digits, at most 4294967295.
-pub fn version_part(s: &[u8]) -> Number
+pub fn version_part(s: &[u8]) -> Option<u64>
     ensures { result ≡ version_part s.now }
 {
-    digits(s, past_plus(s), 0, 4294967295)
+    digits(past_plus(s), 0, 4294967295)
 }

@@ -19,6 +19,8 @@ use Rattle.read_parts.specs.declared.state.Tail.{Tail}
 use Rattle.read_parts.specs.declared.state.Tail.TheVariants.{Fits, Waits, Long}
 use Rattle.read_parts.specs.declared.state.State.{State}
 use Rattle.read_parts.specs.declared.Part.{Part}
+use Rattle.std.specs.Prelude.{Result, Ok}
+use Rattle.base_refusals.specs.declared.Refusal.{Refusal}
 use Rattle.read_parts.specs.State.{hold_length, holds, fresh, is_long, is_blank, waiting, ending, skipped, behind_blank, stored_hold}
 use Rattle.read_parts.specs.Inner.Store.{Ready, Stores, Grows}
 use Rattle.read_parts.specs.Calls.{fed, ended, EndsParts}
@@ -141,23 +143,23 @@ told_long : (l : List ℕ) → hold_length < length l → refusal 25 ∷ [] ≡ 
 unfolding shown
 told_long l h = rw (lt-leb (length l) hold_length h)
 
-fed_tells : (l d : List ℕ) {t : Tail} {s : State} (k : ℕ) → is_long t ≡ false → Stands l d t s → told (fed s k) d ≡ shown l ∷ []
+fed_tells : (l d : List ℕ) {t : Tail} {s : State} (k : ℕ) → is_long t ≡ false → Stands l d t s → told (Ok (fed s k)) d ≡ shown l ∷ []
 fed_tells l d k short (all h e) = rw short (told_all l d h e)
 fed_tells l d k short (long h) = told_long l h
 
 -- a line feed comes
-pub begun_fed : {l before d : List ℕ} {s : State} (k : ℕ) → Begun l before s d → told (fed s k) d ≡ shown (chomped l) ∷ []
+pub begun_fed : {l before d : List ℕ} {s : State} (k : ℕ) → Begun l before s d → told (Ok (fed s k)) d ≡ shown (chomped l) ∷ []
 begun_fed {l} {before} {d} k begun = fed_tells (chomped l) d k (ending_short l) (stands begun.ready.room begun.grew)
 
 -- the end call comes
-ended_tells : (l d : List ℕ) {s : State} → Stands l d Fits s → told (ended s) d ≡ map shown (lines_after l [])
+ended_tells : (l d : List ℕ) {s : State} → Stands l d Fits s → told (Ok (ended s)) d ≡ map shown (lines_after l [])
 unfolding lines_after unless_blank
 ended_tells [] d (all h e) = refl
 ended_tells [] d (long h) = absurd (omega arith)
 ended_tells (x ∷ l) d (all h e) = rw (ne_eqb (suc (length l)) 0 (λ z. omega arith)) (told_all (x ∷ l) d h e)
 ended_tells (x ∷ l) d (long h) = told_long (x ∷ l) h
 
-pub begun_ends : {l before d d' : List ℕ} {s : State} {r : Part} → Begun l before s d → EndsParts s d d' r
+pub begun_ends : {l before d d' : List ℕ} {s : State} {r : Result Part Refusal} → Begun l before s d → EndsParts s d d' r
     → told r d' ≡ map shown (lines_after l [])
 begun_ends {l} {before} {d} {d'} {s} begun p =
     let q = ends_means (begun_ready begun) p in

@@ -1,14 +1,11 @@
 -- Laws of a carriage return at the end of bytes: bytes are what `chomped` leaves and what waits; and what is left of two pieces is what is
 -- left of the first, and then of what waits there with the second. Assumes nothing.
-use Prim.Native.Nat.{ℕ, suc, ◌-◌}
-use native.Mathlib.Omega.{arith}
+use Prim.Native.Nat.{ℕ}
 use mathlib.Core.Path.{◌≡◌, refl, sym, ap, ◌∙◌, subst}
 use mathlib.Core.Logic.{◌≢◌}
 use mathlib.Core.Bool.{Bool, true, false, cond}
 use mathlib.Core.List.{List, [], ◌∷◌, ◌++◌, append_assoc, append-nil}
 use lib.Dec.{eqb}
-use lib.ListN.{length, take, get_or}
-use lib.Seq.{take-suc, take-length}
 use borrow.Author.Tests.{eqb-true, eq-eqb, ne_eqb}
 use Rattle.base_lists.specs.Bytes.{cr}
 use Rattle.read_lines.specs.Lines.{chomped}
@@ -68,22 +65,19 @@ leave_last [] x = (refl, refl)
 leave_last (y ∷ []) x = (refl, refl)
 leave_last (y ∷ z ∷ a) x = let p = leave_last (z ∷ a) x in (ap (λ (l : List ℕ). y ∷ l) p.0, p.1)
 
--- bytes w, and behind them a text whose last byte is at n
-module _ (w s : List ℕ) (n : ℕ) (some : length s ≢ 0) (at : n ≡ length s - 1) where
-  split : (w ++ take n s) ++ (get_or s n 0 ∷ []) ≡ w ++ s
-  split =
-      let e : length s ≡ suc n = omega arith in
-      append_assoc w (take n s) (get_or s n 0 ∷ [])
-      ∙ ap (λ (l : List ℕ). w ++ l) (sym (take-suc s n 0 (omega arith)) ∙ rw (← e) (take-length s))
+-- bytes w, and behind them a text whose last byte is x
+module _ (w : List ℕ) {s : List ℕ} (before : List ℕ) (x : ℕ) (e : s ≡ before ++ x ∷ []) where
+  split : (w ++ before) ++ (x ∷ []) ≡ w ++ s
+  split = append_assoc w before (x ∷ []) ∙ ap (λ (l : List ℕ). w ++ l) (sym e)
 
-  pub returned : get_or s n 0 ≡ cr → Leave (w ++ s) (w ++ take n s) Waits
-  returned e =
-      let p = leave_last (w ++ take n s) (get_or s n 0) in
-      let r = eq-eqb (get_or s n 0) cr e in
-      (ap chomped (sym split) ∙ p.0 ∙ rw r (append-nil (w ++ take n s)), ap ending (sym split) ∙ p.1 ∙ rw r)
+  pub returned : x ≡ cr → Leave (w ++ s) (w ++ before) Waits
+  returned f =
+      let p = leave_last (w ++ before) x in
+      let r = eq-eqb x cr f in
+      (ap chomped (sym split) ∙ p.0 ∙ rw r (append-nil (w ++ before)), ap ending (sym split) ∙ p.1 ∙ rw r)
 
-  pub plain : get_or s n 0 ≢ cr → Leave (w ++ s) (w ++ s) Fits
+  pub plain : x ≢ cr → Leave (w ++ s) (w ++ s) Fits
   plain h =
-      let p = leave_last (w ++ take n s) (get_or s n 0) in
-      let r = ne_eqb (get_or s n 0) cr h in
+      let p = leave_last (w ++ before) x in
+      let r = ne_eqb x cr h in
       (ap chomped (sym split) ∙ p.0 ∙ rw r split, ap ending (sym split) ∙ p.1 ∙ rw r)

@@ -15,17 +15,19 @@ use Rattle.base_scan.specs.Find.{index, seek}
 use Rattle.base_lists.proofs.BoolLaws.{by_test}
 use Rattle.read_lines.specs.Lines.{lines_after, lines}
 use Rattle.read_lines.proofs.LinesLaws.{lines_begin, lines_fed}
+use Rattle.std.specs.Prelude.{Result, Ok}
+use Rattle.base_refusals.specs.declared.Refusal.{Refusal}
 use Rattle.read_parts.specs.declared.state.State.{State}
 use Rattle.read_parts.specs.declared.Part.{Part}
-use Rattle.read_parts.specs.declared.Part.TheVariants.{NoLine}
+use Rattle.read_parts.specs.declared.Came.TheVariants.{NoLine}
 use Rattle.read_parts.specs.State.{hold_length, fresh, is_blank, skipped, behind_blank, grown_hold, settled, settled_hold}
 use Rattle.read_parts.specs.Inner.Store.{Ready}
-use Rattle.read_parts.specs.Calls.{refuses, fed, begun, unskipped, of_line, take_part, TakesPart, ended, EndsParts}
+use Rattle.read_parts.specs.Calls.{part, refuses, begun, unskipped, of_line, take_part, TakesPart, ended, EndsParts}
 use Rattle.read_parts.specs.Run.{Event, line, refusal, shown, told, bytes_taken, next_state, Run, call, end}
 use Rattle.read_parts.specs.Sameness.{Sameness, OneCall}
 use Rattle.read_parts.proofs.SkipLaws.{skipped_le}
 use Rattle.read_parts.proofs.StoreLaws.{behind_ready, stores_ready, grows_none}
-use Rattle.read_parts.proofs.CallLaws.{ready, accepted, leaves, leaves_means, Means, more, feed, takes_means, ends_means, fed_next}
+use Rattle.read_parts.proofs.CallLaws.{ready, accepted, leaves, leaves_means, Means, more, feed, takes_means, ends_means}
 use Rattle.read_parts.proofs.BegunLaws.{Begun, begun_fresh, begun_ready, begun_grows, begun_past, begun_fed, begun_ends}
 
 -- ── what is told ──────────────────────────────────────────────────────────────────────────────
@@ -44,7 +46,7 @@ same_after l before begun (end ends) = begun_ends begun ends
 same_after l before {d} {text} {s = s} begun (call {d' = d'} {r = r} {events = events} n took run) =
     go (take n text) (drop n text) (sym (take-append-drop n text)) (takes_means (begun_ready begun) took) (λ m w b. same_after m w b run)
   where
-    go : (p rest : List ℕ) → text ≡ p ++ rest → {x : Part} → Means s p d d' x
+    go : (p rest : List ℕ) → text ≡ p ++ rest → {x : Result Part Refusal} → Means s p d d' x
         → ((m w : List ℕ) → Begun m w (next_state s x) d' → events ≡ map shown (lines_after m (drop (bytes_taken x) text)))
         → told x d' ++ events ≡ map shown (lines_after l text)
     go p rest e (more {g} lacks grows) later =
@@ -54,12 +56,11 @@ same_after l before {d} {text} {s = s} begun (call {d' = d'} {r = r} {events = e
     go p rest e (feed {g} {k} a b f n lacks grows) later =
         let past = begun_past begun p in
         let line = begun_grows past.begins a grows in
-        let q = fed_next s g (k + 1) in
-        let z : drop (bytes_taken (fed g (k + 1))) text ≡ b ++ rest
-        = rw (q.1, e) (drop_fed p a b rest (skipped s p) k (skipped_le s p) f n) in
+        let z : drop (k + 1) text ≡ b ++ rest
+        = rw e (drop_fed p a b rest (skipped s p) k (skipped_le s p) f n) in
         rw (
           begun_fed (k + 1) line,
-          later [] d' (rw q.0 (begun_fresh (begun_ready line).room)),
+          later [] d' (begun_fresh (begun_ready line).room),
           z,
           e,
           past.same rest,
@@ -86,39 +87,39 @@ shown_not_34 (l ∷ ls) = (
 
 -- ── one call ──────────────────────────────────────────────────────────────────────────────────
 
-module _ {s : State} {d d' : List ℕ} {r : Part} (q : Ready s d) where
+module _ {s : State} {d d' : List ℕ} {r : Result Part Refusal} (q : Ready s d) where
   takes_some : (p : List ℕ) → TakesPart s p d d' r → 0 < length p → 0 < bytes_taken r
   takes_some p t h = go (takes_means q t)
     where
-      go : {x : Part} → Means s p d d' x → 0 < bytes_taken x
+      go : {x : Result Part Refusal} → Means s p d d' x → 0 < bytes_taken x
       go (more l g) = h
-      go (feed {g} {k} a b e n l grows) = rw (fed_next s g (k + 1)).1 (omega arith)
+      go (feed {g} {k} a b e n l grows) = omega arith
 
   next_ready : (p : List ℕ) → TakesPart s p d d' r → Ready (next_state s r) d'
   next_ready p t = go (takes_means q t)
     where
-      go : {x : Part} → Means s p d d' x → Ready (next_state s x) d'
+      go : {x : Result Part Refusal} → Means s p d d' x → Ready (next_state s x) d'
       go (more l grows) = stores_ready (behind_ready (skipped s p) q) grows
       go (feed {g} {k} a b e n l grows) =
-          rw (fed_next s g (k + 1)).0 (record { within = omega arith; room = (stores_ready (behind_ready (skipped s p) q) grows).room })
+          record { within = omega arith; room = (stores_ready (behind_ready (skipped s p) q) grows).room }
 
-  takes_none : TakesPart s [] d d' r → (r ≡ NoLine 0 s) × (d' ≡ d)
+  takes_none : TakesPart s [] d d' r → (r ≡ Ok (part NoLine 0 s)) × (d' ≡ d)
   unfolding take_part behind_blank seek index
   takes_none t =
       let m = leaves_means q t in
       let none = grows_none s [] d q.within refl in
       let e : skipped s [] ≡ 0 = omega (arith, skipped_le s []) in
-      (m.0 ∙ rw e (ap (NoLine 0) (sym none.result)), m.1 ∙ rw e (sym none.left))
+      (m.0 ∙ rw e (ap (λ (x : State). Ok (part NoLine 0 x)) (sym none.result)), m.1 ∙ rw e (sym none.left))
 
   ends_fresh : EndsParts s d d' r → next_state s r ≡ fresh
   ends_fresh e =
       let last = settled s in
       rw (ends_means q e).0
-      (by_test (λ (x : Part). next_state s x ≡ fresh) (is_blank last)
+      (by_test (λ (x : Part). x.state ≡ fresh) (is_blank last)
       (λ none. refl)
-      (λ some. (fed_next s last 0).0))
+      (λ some. refl))
 
-pub one_call : {s : State} {d d' : List ℕ} {r : Part} → refuses s.held (length d) ≡ false → OneCall s d d' r
+pub one_call : {s : State} {d d' : List ℕ} {r : Result Part Refusal} → refuses s.held (length d) ≡ false → OneCall s d d' r
 one_call {s} {d} ok =
     let q = ready s d ok in
     record {
@@ -139,7 +140,7 @@ then : {s : State} {d : List ℕ} (text lengths : List ℕ) (n : ℕ) → Ready 
     → GoesOn (n ∷ lengths) s d text
 then {s} {d} text lengths n q later =
     let p = take n text in
-    let r = take_part s p in
+    let r = Ok (take_part s p) in
     let hold = grown_hold (begun s p) (of_line (unskipped s p)) d in
     let t : TakesPart s p d hold r = leaves (accepted q) refl refl in
     let on = later (next_state s r) hold (bytes_taken r) (next_ready q p t) (takes_some q p t) in
@@ -147,7 +148,7 @@ then {s} {d} text lengths n q later =
 
 -- nothing is left
 at_the_end : (s : State) (d : List ℕ) → Ready s d → GoesOn [] s d []
-at_the_end s d q = ([], told (ended (settled s)) (settled_hold s d), end (leaves (accepted q) refl refl))
+at_the_end s d q = ([], told (Ok (ended (settled s))) (settled_hold s d), end (leaves (accepted q) refl refl))
 
 -- all that is left is handed over again and again
 to_the_end : (n : ℕ) (s : State) (d text : List ℕ) → length text ≤ n → Ready s d → GoesOn [] s d text

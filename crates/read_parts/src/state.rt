@@ -6,7 +6,7 @@ ghost use Rattle.read_parts.specs.State.{fresh, is_long, is_blank, skipped, behi
 ghost use Rattle.read_parts.specs.Inner.Store.{Ready, Stores, Grows, Settles};
 
 // What is known of the line's end.
-#[derive(Clone, Copy)]
+#[derive(Clone, Copy, Debug, PartialEq, Eq)]
 pub enum Tail {
     // All that was taken of the line stands in the hold, and stays.
     Fits,
@@ -16,9 +16,9 @@ pub enum Tail {
     Long,
 }
 
-#[derive(Clone, Copy)]
+#[derive(Clone, Copy, Debug, PartialEq, Eq)]
 pub struct State {
-    // So many of the hold's first bytes belong to the line.
+    // So many of the hold's first bytes belong to the line. The hold is lent by C, so it is no part of the state.
     pub held: usize,
     pub tail: Tail,
 }
@@ -38,12 +38,7 @@ impl State {
 pub(crate) fn is_long(state: State) -> bool
     ensures { result ≡ is_long state.tail }
 {
-    let tail = state.tail;
-    match tail {
-        Tail::Fits => false,
-        Tail::Waits => false,
-        Tail::Long => true,
-    }
+    state.tail == Tail::Long
 }
 
 // So far the line is blank: no byte of it is sure to stay.
@@ -57,13 +52,11 @@ pub(crate) fn is_blank(state: State) -> bool
 fn skipped_behind_return(part: &[u8]) -> usize
     ensures { result ≡ blank_run (cr ∷ part.now) - 1 }
 {
-    if part.len() == 0 {
-        return 0;
+    if part.starts_with(b"\n") {
+        read_lines::past_blank(part, 0)
+    } else {
+        0
     }
-    if part[0] != b'\n' {
-        return 0;
-    }
-    read_lines::past_blank(part, 0)
 }
 
 // So many bytes of a part belong to blank lines.
@@ -73,8 +66,7 @@ pub(crate) fn skipped(state: State, part: &[u8]) -> usize
     if state.held != 0 {
         return 0;
     }
-    let tail = state.tail;
-    match tail {
+    match state.tail {
         Tail::Fits => read_lines::past_blank(part, 0),
         Tail::Waits => skipped_behind_return(part),
         Tail::Long => 0,
@@ -116,11 +108,9 @@ pub(crate) fn settle(state: State, hold: &mut [u8]) -> State
     requires { Ready state hold.old }
     ensures { Settles state hold.old hold.new result }
 {
-    let tail = state.tail;
-    match tail {
+    match state.tail {
         Tail::Waits => store(state, hold, b"\r", Tail::Fits),
-        Tail::Fits => state,
-        Tail::Long => state,
+        Tail::Fits | Tail::Long => state,
     }
 }
 
@@ -129,13 +119,13 @@ pub(crate) fn grow(state: State, hold: &mut [u8], bytes: &[u8]) -> State
     requires { Ready state hold.old }
     ensures { Grows state bytes.now hold.old hold.new result }
 {
-    let n = bytes.len();
-    if n == 0 {
+    let Some((&last, before)) = bytes.split_last() else {
         return state;
-    }
+    };
     let settled = settle(state, hold);
-    if bytes[n - 1] == b'\r' {
-        return store(settled, hold, &bytes[..n - 1], Tail::Waits);
+    if last == b'\r' {
+        store(settled, hold, before, Tail::Waits)
+    } else {
+        store(settled, hold, bytes, Tail::Fits)
     }
-    store(settled, hold, bytes, Tail::Fits)
 }

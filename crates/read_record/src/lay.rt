@@ -11,20 +11,11 @@ ghost use Rattle.read_judge.specs.Judge.{stuck, got, unfolded};
 ghost use Rattle.read_record.specs.Unfold.{Unfolds};
 ghost use Rattle.read_record.specs.Inner.Texts.{texts_of};
 
-use read_attributes::Step;
+use base_buffer::WriteError;
+use base_refusals::Refusal;
 use read_columns::{Bounds, Column};
-use read_judge::{Admitted, Numbers, Surveyed};
-use read_values::{NextValue, ValueCursor};
-
-#[derive(Clone, Copy)]
-pub enum Unfolded {
-    // The sheet stands at the buffer's start: the numbers beside it, and its length.
-    Done(Numbers, usize),
-    // 24, 1, 2, 17, 3, 4 or 5.
-    Refused(u32),
-    // Refusal 22: the sheet is longer than the buffer, and has so many bytes.
-    NoRoom(usize),
-}
+use read_judge::Numbers;
+use read_values::ValueCursor;
 
 // Where the attributes end that were laid, and how many they are.
 #[derive(Clone, Copy)]
@@ -49,15 +40,11 @@ fn value_count(value: &[u8]) -> usize
 {
     let mut n: usize = 0;
     let mut cursor = ValueCursor::new();
-    loop {
-        match read_values::next_value(value, cursor) {
-            NextValue::Is(_, next) => {
-                n += 1;
-                cursor = next;
-            }
-            NextValue::Done => return n,
-        }
+    while let Some((_, next)) = read_values::next_value(value, cursor) {
+        n += 1;
+        cursor = next;
     }
+    n
 }
 
 fn lay_values(value: &[u8], out: &mut [u8], at: usize) -> usize
@@ -65,15 +52,11 @@ fn lay_values(value: &[u8], out: &mut [u8], at: usize) -> usize
 {
     let mut to = base_numbers::least(at, out.len());
     let mut cursor = ValueCursor::new();
-    loop {
-        match read_values::next_value(value, cursor) {
-            NextValue::Is(place, next) => {
-                to = sheet_sections::lay_decoded_section(base_scan::text(value, place), out, to);
-                cursor = next;
-            }
-            NextValue::Done => return to,
-        }
+    while let Some((place, next)) = read_values::next_value(value, cursor) {
+        to = sheet_sections::lay_decoded_section(base_scan::text(value, place), out, to);
+        cursor = next;
     }
+    to
 }
 
 // Lays an attribute. One that is known to have neither a percent sign nor a `,` has one value, and both texts are copied.
@@ -102,28 +85,21 @@ fn lay_attributes(column: &[u8], out: &mut [u8], at: usize) -> Laid
     let mut from = 0;
     let mut percent = base_scan::find(column, 0, b'%');
     let mut comma = base_scan::find(column, 0, b',');
-    loop {
-        match read_attributes::next_field(column, from) {
-            Step::Is(field) => {
-                let tag = field.tag;
-                let value = field.value;
-                let end = value.end;
-                to = lay_attribute(
-                    base_scan::text(column, tag),
-                    base_scan::text(column, value),
-                    (end <= percent) & (end <= comma),
-                    out,
-                    to,
-                );
-                percent = base_scan::find_on(column, percent, end, b'%');
-                comma = base_scan::find_on(column, comma, end, b',');
-                count += 1;
-                from = field.next;
-            }
-            Step::Done => return Laid { to, count },
-            Step::Refused => return Laid { to, count },
-        }
+    while let Some(field) = read_attributes::next_field(column, from).unwrap_or(None) {
+        let end = field.value.end;
+        to = lay_attribute(
+            base_scan::text(column, field.tag),
+            base_scan::text(column, field.value),
+            (end <= percent) & (end <= comma),
+            out,
+            to,
+        );
+        percent = base_scan::find_on(column, percent, end, b'%');
+        comma = base_scan::find_on(column, comma, end, b',');
+        count += 1;
+        from = field.next;
     }
+    Laid { to, count }
 }
 
 // The first four sections. A column that ends before the first percent sign has none.
@@ -158,35 +134,30 @@ fn lay_sheet(line: &[u8], bounds: Bounds, out: &mut [u8]) -> usize
 
 // Unfolds a line whose sheet fits, as it does where there is room for ten bytes for each of the line's and for the counts that every sheet
 // has: nothing is measured, and the place behind the sheet is its length.
-fn unfold_at_once(line: &[u8], out: &mut [u8]) -> Unfolded
+fn unfold_at_once(line: &[u8], out: &mut [u8]) -> Result<(Numbers, usize), WriteError>
     requires { 26 + 10 * length line.now ≤ length out.old }
     ensures { Unfolds line.now out.old out.new result }
 {
-    match read_judge::admit(line) {
-        Admitted::Is(numbers, bounds) => Unfolded::Done(numbers, lay_sheet(line, bounds, out)),
-        Admitted::Refused(n) => Unfolded::Refused(n),
-    }
+    let (numbers, bounds) = read_judge::admit(line)?;
+    Ok((numbers, lay_sheet(line, bounds, out)))
 }
 
-// Lays the sheet of a line at the start of a buffer, and answers the numbers beside it. Refusals, in order: 24, over 4,194,304 bytes; 1;
-// 2 (start, then end); 17; 3; 4; 5; 22, with the sheet's length. A refused line changes no byte, and bytes behind the sheet stay.
-pub fn unfold(line: &[u8], out: &mut [u8]) -> Unfolded
+// Lays the sheet of a line at the start of a buffer, and answers the numbers beside it and its length. Refusals, in order: 24, over
+// 4,194,304 bytes; 1; 2 (start, then end); 17; 3; 4; 5; 22, with the sheet's length. A refused line changes no byte, and bytes behind the
+// sheet stay.
+pub fn unfold(line: &[u8], out: &mut [u8]) -> Result<(Numbers, usize), WriteError>
     ensures { Unfolds line.now out.old out.new result }
 {
     if base_buffer::MOST_LINE < line.len() {
-        return Unfolded::Refused(24);
+        return Err(WriteError::Refused(Refusal::TooLong));
     }
     if 26 + 10 * line.len() <= out.len() {
         return unfold_at_once(line, out);
     }
-    match read_judge::survey(line) {
-        Surveyed::Is(numbers, bounds, length) => {
-            if out.len() < length {
-                return Unfolded::NoRoom(length);
-            }
-            lay_sheet(line, bounds, out);
-            Unfolded::Done(numbers, length)
-        }
-        Surveyed::Refused(n) => Unfolded::Refused(n),
+    let (numbers, bounds, length) = read_judge::survey(line)?;
+    if out.len() < length {
+        return Err(WriteError::NoRoom(length));
     }
+    lay_sheet(line, bounds, out);
+    Ok((numbers, length))
 }

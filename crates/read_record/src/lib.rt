@@ -9,4 +9,4 @@
 
 mod lay;
 
-pub use lay::{Unfolded, unfold};
+pub use lay::unfold;

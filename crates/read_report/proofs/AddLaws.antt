@@ -1,5 +1,6 @@
 -- One line more, in a report: it adds one to all lines, and one to the sixty-four and the reversed where it adds one to the records.
 -- Assumes nothing.
+use Rattle.base_refusals.specs.Refusal.{number}
 use Prim.Native.Nat.{ℕ, zero, suc, ◌+◌, ◌-◌, ◌^◌, ◌≤◌, ◌<◌}
 use native.Mathlib.Omega.{arith}
 use borrow.Author.Tests.{le-leb, lt-leb, lt-ltb}
@@ -69,7 +70,7 @@ total_raised (x ∷ l) (suc k) h = omega (arith, total_raised l k (omega arith))
 pub lengths_by : (l : List ℕ) (v : Verdict) → add_length l v ≡ cond (ltb 0 (length_of v)) (raised (power (length_of v)) l) l
 lengths_by l Directive = refl
 lengths_by l Comment = refl
-lengths_by l (Refused k) = refl
+lengths_by l (Refused r) = refl
 lengths_by l (Record n) = go (above n)
   where
     go : (t : Bool)
@@ -93,7 +94,7 @@ unfolding bit
 all_lines_add t Directive h = omega arith
 all_lines_add t Comment h = omega arith
 all_lines_add t (Record n) h = omega arith
-all_lines_add t (Refused n) h = omega (arith, once n h)
+all_lines_add t (Refused r) h = omega (arith, once (number r) h)
 
 -- a record adds one to the sixty-four, or else to the reversed
 one_of_both : (t : Bool) (n back : ℕ) (l : List ℕ) → length l ≡ 64
@@ -109,7 +110,7 @@ pub balanced_add : (r : Report) (v : Verdict) → Balanced r → Balanced (add r
 unfolding bit
 balanced_add r Directive h = record { sixty_four = h.sixty_four; lengths = omega (arith, h.lengths) }
 balanced_add r Comment h = record { sixty_four = h.sixty_four; lengths = omega (arith, h.lengths) }
-balanced_add r (Refused n) h = record { sixty_four = h.sixty_four; lengths = omega (arith, h.lengths) }
+balanced_add r (Refused k) h = record { sixty_four = h.sixty_four; lengths = omega (arith, h.lengths) }
 balanced_add r (Record n) h =
     let b = one_of_both (above n) (length_of (Record n)) r.totals.reversed r.lengths h.sixty_four in
     record { sixty_four = b.0; lengths = omega (arith, h.lengths, b.1) }

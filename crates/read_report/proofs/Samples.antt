@@ -1,6 +1,7 @@
 -- Samples, computed: RULES 17.5, and the report of a text of three lines. Assumes nothing.
 use mathlib.Core.Path.{◌≡◌, refl}
 use lib.ListN.{replicate}
+use Rattle.std.specs.Prelude.{Ok}
 use Rattle.base_lists.specs.Bit.{bit}
 use Rattle.base_lists.specs.Bytes.{ascii}
 use Rattle.base_scan.specs.Find.{index, seek}
@@ -24,27 +25,23 @@ powers = (refl, refl, refl, refl, refl, refl, refl, refl)
 
 -- a directive, a blank line, a comment, and a line without tabs
 counted : morning (ascii "##gff-version x\n\n# a\r\nb")
-    ≡ record {
-      refused = 0;
-      report =
+    ≡ Ok (record {
+      lengths = replicate 64 0;
+      totals =
           record {
-            lengths = replicate 64 0;
-            totals =
-                record {
-                  records = 0;
-                  directives = 1;
-                  comments = 1;
-                  reversed = 0;
-                  sum = 0;
-                  refused_too_long = 0;
-                  refused_columns = 1;
-                  refused_position = 0;
-                  refused_score = 0;
-                  refused_strand = 0;
-                  refused_phase = 0;
-                  refused_attribute = 0;
-                };
+            records = 0;
+            directives = 1;
+            comments = 1;
+            reversed = 0;
+            sum = 0;
+            refused_too_long = 0;
+            refused_columns = 1;
+            refused_position = 0;
+            refused_score = 0;
+            refused_strand = 0;
+            refused_phase = 0;
+            refused_attribute = 0;
           };
-    }
+    })
 unfolding bit index seek unless chomped unless_blank lines_after past_tab ends kind verdict morning
 counted = refl

@@ -6,6 +6,8 @@ use mathlib.Core.Path.{◌≡◌, refl, ap}
 use mathlib.Core.List.{List, [], ◌∷◌, map, sum}
 use lib.ListN.{length}
 use Rattle.read_numbers.specs.Number.{most64}
+use Rattle.std.specs.Prelude.{Ok, Err}
+use Rattle.base_refusals.specs.declared.Refusal.TheVariants as refusal
 use Rattle.base_scan.specs.declared.place.Place.{Place}
 use Rattle.base_scan.specs.Part.{text_at}
 use Rattle.read_lines.specs.declared.Cursor.{Cursor}
@@ -55,11 +57,11 @@ adds_up s =
 
 -- ── the answer ────────────────────────────────────────────────────────────────────────────────
 
-pub passed : (s : List ℕ) → most64 < lengths_of s → morning s ≡ record { refused = 26; report = nothing }
+pub passed : (s : List ℕ) → most64 < lengths_of s → morning s ≡ Err refusal.Sum
 unfolding morning
 passed s h = rw (lt-ltb most64 (counted nothing (lines s)).totals.sum (omega (arith, (adds_up s).exact)))
 
-pub not_passed : (s : List ℕ) → lengths_of s ≤ most64 → morning s ≡ record { refused = 0; report = counted nothing (lines s) }
+pub not_passed : (s : List ℕ) → lengths_of s ≤ most64 → morning s ≡ Ok (counted nothing (lines s))
 unfolding morning
 not_passed s h = rw (le-ltb most64 (counted nothing (lines s)).totals.sum (omega (arith, (adds_up s).exact)))
 
@@ -94,11 +96,11 @@ module _ {s : List ℕ} {c next : Cursor} {place : Place} {r : Report} (half : H
       }
 
   -- lengths only add: where the sum passes before the last line, it passes
-  pub passes : most64 < r.totals.sum + length_of v → morning s ≡ record { refused = 26; report = nothing }
+  pub passes : most64 < r.totals.sum + length_of v → morning s ≡ Err refusal.Sum
   passes over =
       passed s (omega (arith, ap (λ (x : Report). x.totals.sum) counts_on, sum_counted (add r v) (left s next), (adds_up s).exact))
 
 -- no line is left
-pub ends : {s : List ℕ} {c : Cursor} {r : Report} → Halfway s c r → left s c ≡ [] → morning s ≡ record { refused = 0; report = r }
+pub ends : {s : List ℕ} {c : Cursor} {r : Report} → Halfway s c r → left s c ≡ [] → morning s ≡ Ok r
 unfolding morning
 ends {s} {c} {r} half e = let w : r ≡ counted nothing (lines s) = rw e at half.whole in rw (← w, le-ltb most64 r.totals.sum half.sum)

@@ -1,8 +1,11 @@
 -- The morning's report of a text: RULES 17. It is a fold over the lines of the text, in numbers without a limit; what passes 64 bits is
 -- refused at the end. Assumes nothing: these are definitions.
-use Rattle.std.specs.Prelude.{ℕ, zero, suc, ◌+◌, ◌-◌, ◌^◌, Bool, true, false, cond, not, eqb, ltb, leb, get_or, set, replicate}
+use Rattle.std.specs.Prelude.{ℕ, zero, suc, ◌+◌, ◌-◌, ◌^◌, Bool, true, false, cond, not, Result, Ok, Err, eqb, ltb, leb, get_or, set, replicate}
 use mathlib.Core.List.{List, foldl}
 use Rattle.base_lists.specs.Bit.{bit}
+use Rattle.base_refusals.specs.declared.Refusal.{Refusal}
+use Rattle.base_refusals.specs.declared.Refusal.TheVariants as refusal
+use Rattle.base_refusals.specs.Refusal.{number}
 use Rattle.read_numbers.specs.Number.{most64}
 use Rattle.read_judge.specs.declared.judging.Numbers.{Numbers}
 use Rattle.read_lines.specs.Lines.{lines}
@@ -11,7 +14,6 @@ use Rattle.read_verdict.specs.declared.Verdict.TheVariants.{Directive, Comment, 
 use Rattle.read_verdict.specs.Verdict.{verdict}
 use Rattle.read_report.specs.declared.totals.Totals.{Totals}
 use Rattle.read_report.specs.declared.totals.Report.{Report}
-use Rattle.read_report.specs.declared.morning.Morning.{Morning}
 
 -- ── lengths ──
 
@@ -34,46 +36,46 @@ abbrev pub is_record : Verdict → Bool
 is_record Directive = false
 is_record Comment = false
 is_record (Record n) = true
-is_record (Refused k) = false
+is_record (Refused r) = false
 
 abbrev pub is_directive : Verdict → Bool
 is_directive Directive = true
 is_directive Comment = false
 is_directive (Record n) = false
-is_directive (Refused k) = false
+is_directive (Refused r) = false
 
 abbrev pub is_comment : Verdict → Bool
 is_comment Directive = false
 is_comment Comment = true
 is_comment (Record n) = false
-is_comment (Refused k) = false
+is_comment (Refused r) = false
 
 -- a record, reversed or not
 abbrev pub is_reversed : Verdict → Bool
 is_reversed Directive = false
 is_reversed Comment = false
 is_reversed (Record n) = above n
-is_reversed (Refused k) = false
+is_reversed (Refused r) = false
 
 abbrev pub is_forward : Verdict → Bool
 is_forward Directive = false
 is_forward Comment = false
 is_forward (Record n) = not (above n)
-is_forward (Refused k) = false
+is_forward (Refused r) = false
 
 -- by this number
 abbrev pub is_refused : ℕ → Verdict → Bool
-is_refused number Directive = false
-is_refused number Comment = false
-is_refused number (Record n) = false
-is_refused number (Refused k) = eqb k number
+is_refused n Directive = false
+is_refused n Comment = false
+is_refused n (Record numbers) = false
+is_refused n (Refused r) = eqb (number r) n
 
 -- "end minus start plus 1", of a record that is not reversed
 abbrev pub length_of : Verdict → ℕ
 length_of Directive = 0
 length_of Comment = 0
 length_of (Record n) = cond (above n) 0 (n.end - n.start + 1)
-length_of (Refused k) = 0
+length_of (Refused r) = 0
 
 -- ── the report ──
 
@@ -134,8 +136,8 @@ counted r ls = foldl (λ r line. add r (verdict line)) r ls
 -- ── the answer ──
 
 -- "26, the length sum passes 18446744073709551615; the whole report is refused"
-abbrev pub unless_passed : Report → Morning
-unless_passed r = cond (ltb most64 r.totals.sum) (record { refused = 26; report = nothing }) (record { refused = 0; report = r })
+abbrev pub unless_passed : Report → Result Report Refusal
+unless_passed r = cond (ltb most64 r.totals.sum) (Err refusal.Sum) (Ok r)
 
-unfoldable pub morning : List ℕ → Morning
+unfoldable pub morning : List ℕ → Result Report Refusal
 morning s = unless_passed (counted nothing (lines s))

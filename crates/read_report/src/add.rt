@@ -6,6 +6,7 @@ ghost use Rattle.read_report.specs.Report.{power, length_of, add_totals};
 ghost use Rattle.read_report.specs.Inner.Room.{Room};
 
 use super::totals::Totals;
+use base_refusals::Refusal;
 use read_judge::Numbers;
 use read_verdict::Verdict;
 
@@ -14,7 +15,7 @@ pub(crate) fn power_of(length: u64) -> usize
     requires { 0 < length }
     ensures { (result ≡ power length) × (result < 64) }
 {
-    (63 - u64::leading_zeros(length)) as usize
+    length.ilog2() as usize
 }
 
 // What a line adds to the sum: the length of a record that is not reversed, which is at least 1, and else nothing.
@@ -29,9 +30,7 @@ pub(crate) fn length_of(verdict: Verdict) -> u64
             }
             numbers.end - numbers.start + 1
         }
-        Verdict::Directive => 0,
-        Verdict::Comment => 0,
-        Verdict::Refused(_) => 0,
+        Verdict::Directive | Verdict::Comment | Verdict::Refused(_) => 0,
     }
 }
 
@@ -40,28 +39,28 @@ fn add_record(totals: Totals, numbers: Numbers) -> Totals
     ensures { result ≡ add_totals totals (Record numbers) }
 {
     let mut out = totals;
-    out.records = out.records + 1;
+    out.records += 1;
     if numbers.end < numbers.start {
-        out.reversed = out.reversed + 1;
+        out.reversed += 1;
         return out;
     }
-    out.sum = out.sum + (numbers.end - numbers.start + 1);
+    out.sum += numbers.end - numbers.start + 1;
     out
 }
 
-fn add_refused(totals: Totals, n: u32) -> Totals
-    requires { Room totals (Refused n) }
-    ensures { result ≡ add_totals totals (Refused n) }
+fn add_refused(totals: Totals, refusal: Refusal) -> Totals
+    requires { Room totals (Refused refusal) }
+    ensures { result ≡ add_totals totals (Refused refusal) }
 {
     let mut out = totals;
-    match n {
-        24 => out.refused_too_long = out.refused_too_long + 1,
-        1 => out.refused_columns = out.refused_columns + 1,
-        2 => out.refused_position = out.refused_position + 1,
-        17 => out.refused_score = out.refused_score + 1,
-        3 => out.refused_strand = out.refused_strand + 1,
-        4 => out.refused_phase = out.refused_phase + 1,
-        5 => out.refused_attribute = out.refused_attribute + 1,
+    match refusal {
+        Refusal::TooLong => out.refused_too_long += 1,
+        Refusal::Columns => out.refused_columns += 1,
+        Refusal::Position => out.refused_position += 1,
+        Refusal::Score => out.refused_score += 1,
+        Refusal::Strand => out.refused_strand += 1,
+        Refusal::Phase => out.refused_phase += 1,
+        Refusal::Attribute => out.refused_attribute += 1,
         _ => {}
     }
     out
@@ -74,10 +73,10 @@ pub(crate) fn add_totals(totals: Totals, verdict: Verdict) -> Totals
 {
     let mut out = totals;
     match verdict {
-        Verdict::Directive => out.directives = out.directives + 1,
-        Verdict::Comment => out.comments = out.comments + 1,
+        Verdict::Directive => out.directives += 1,
+        Verdict::Comment => out.comments += 1,
         Verdict::Record(numbers) => return add_record(totals, numbers),
-        Verdict::Refused(n) => return add_refused(totals, n),
+        Verdict::Refused(refusal) => return add_refused(totals, refusal),
     }
     out
 }

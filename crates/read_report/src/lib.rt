@@ -12,5 +12,5 @@ mod add;
 mod morning;
 mod totals;
 
-pub use morning::{Morning, report_of};
+pub use morning::report_of;
 pub use totals::{Report, Totals};

@@ -1,8 +1,5 @@
 // The report: the sixty-four, and the totals beside them.
-ghost use Rattle.std.specs.Prelude.{◌≡◌};
-ghost use Rattle.read_report.specs.Report.{no_totals};
-
-#[derive(Clone, Copy)]
+#[derive(Clone, Copy, Debug, Default, PartialEq, Eq)]
 pub struct Totals {
     // Lines that unfold, the reversed ones among them.
     pub records: u64,
@@ -23,29 +20,9 @@ pub struct Totals {
 }
 
 // The totals are a struct of their own: they go from line to line by value, and the sixty-four are not to be copied for each line.
-#[derive(Clone, Copy)]
+#[derive(Clone, Copy, Debug, PartialEq, Eq)]
 pub struct Report {
     // How many lengths lie in each power of two: `lengths[i]` counts those from 2^i on, before 2^(i + 1).
     pub lengths: [u64; 64],
     pub totals: Totals,
-}
-
-// Nothing counted.
-pub(crate) fn no_totals() -> Totals
-    ensures { result ≡ no_totals }
-{
-    Totals {
-        records: 0,
-        directives: 0,
-        comments: 0,
-        reversed: 0,
-        sum: 0,
-        refused_too_long: 0,
-        refused_columns: 0,
-        refused_position: 0,
-        refused_score: 0,
-        refused_strand: 0,
-        refused_phase: 0,
-        refused_attribute: 0,
-    }
 }

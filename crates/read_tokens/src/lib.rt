@@ -11,6 +11,6 @@ mod phase;
 mod position;
 mod strand;
 
-pub use phase::{Phase, PhaseRead, phase_byte, phase_number, phase_of};
-pub use position::{PositionRead, position_of};
-pub use strand::{Strand, StrandRead, strand_byte, strand_number, strand_of};
+pub use phase::{Phase, phase_byte, phase_number, phase_of};
+pub use position::position_of;
+pub use strand::{Strand, strand_byte, strand_number, strand_of};

@@ -18,8 +18,7 @@ use Rattle.base_scan.specs.declared.place.Place.{Place}
 use Rattle.base_scan.proofs.FindLaws.{seek_le, seek_ge}
 use Rattle.base_scan.proofs.PartLaws.{length_part}
 use Rattle.read_values.specs.declared.ValueCursor.{ValueCursor}
-use Rattle.read_values.specs.declared.NextValue.{NextValue}
-use Rattle.read_values.specs.declared.NextValue.TheVariants.{Is, Done}
+use Rattle.std.specs.Prelude.{Option, Some, None}
 use Rattle.read_values.specs.Pieces.{pieces}
 use Rattle.read_values.specs.Step.{fresh, value_to, next_value, value_then, value_steps}
 use Rattle.read_values.proofs.PiecesLaws.{pieces_next, pieces_few}
@@ -39,9 +38,9 @@ pub record Hands (s : List ℕ) (c : ValueCursor) (place : Place) (next : ValueC
   pub behind : next.at ≡ min (place.end + 1) (length s)
 
 -- what an answer says of them
-abbrev pub Meets : List ℕ → ValueCursor → NextValue → Type 0
-Meets s c Done = left s c ≡ []
-Meets s c (Is place next) = Hands s c place next
+abbrev pub Meets : List ℕ → ValueCursor → Option (Place × ValueCursor) → Type 0
+Meets s c None = left s c ≡ []
+Meets s c (Some (place, next)) = Hands s c place next
 
 -- a cursor beyond the text leaves what one at its end does
 pub drop_clipped : (at : ℕ) (s : List ℕ) → drop at s ≡ drop (min at (length s)) s
@@ -56,7 +55,7 @@ unfolding next_value
 value_meets s c = go c.out refl
   where
     go : (t : Bool) → c.out ≡ t
-        → Meets s c (cond t Done (value_to s (min c.at (length s)) (found comma (min c.at (length s)) s)))
+        → Meets s c (cond t None (value_to s (min c.at (length s)) (found comma (min c.at (length s)) s)))
     go true e = rw e
     go false e =
         let at = min c.at (length s) in
@@ -71,15 +70,15 @@ value_meets s c = go c.out refl
         }
 
 -- what a step answered, as its caller has it
-pub meets : (s : List ℕ) (c : ValueCursor) {r k : NextValue} → r ≡ next_value s c → r ≡ k → Meets s c k
+pub meets : (s : List ℕ) (c : ValueCursor) {r k : Option (Place × ValueCursor)} → r ≡ next_value s c → r ≡ k → Meets s c k
 meets s c e f = rw (← f, e) (value_meets s c)
 
 -- ── steps in a row ────────────────────────────────────────────────────────────────────────────
 
 -- a step hands out the first value that is left
-first_left : (s : List ℕ) (c : ValueCursor) (r : NextValue) → Meets s c r → left s c ≡ and_on (value_then s r) (left s)
-first_left s c Done m = m
-first_left s c (Is place next) m = m.first
+first_left : (s : List ℕ) (c : ValueCursor) (r : Option (Place × ValueCursor)) → Meets s c r → left s c ≡ and_on (value_then s r) (left s)
+first_left s c None m = m
+first_left s c (Some (place, next)) m = m.first
 
 -- n steps hand out the first n values to come, in order: all, where there are no more, and then the step is done
 pub values_exact : (n : ℕ) (s : List ℕ) (c : ValueCursor) → value_steps n s c ≡ take n (left s c)

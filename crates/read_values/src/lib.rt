@@ -18,13 +18,6 @@ pub struct ValueCursor {
     pub out: bool,
 }
 
-#[derive(Clone, Copy)]
-pub enum NextValue {
-    // The value as it stands, and the cursor behind it.
-    Is(Place, ValueCursor),
-    Done,
-}
-
 impl ValueCursor {
     // The start of a value.
     pub fn new() -> Self
@@ -34,12 +27,13 @@ impl ValueCursor {
     }
 }
 
-// The next value from a cursor on. An empty text is one empty value.
-pub fn next_value(value: &[u8], cursor: ValueCursor) -> NextValue
+// The next value from a cursor on, as it stands, and the cursor behind it; none where the last one is out. An empty text is one empty
+// value.
+pub fn next_value(value: &[u8], cursor: ValueCursor) -> Option<(Place, ValueCursor)>
     ensures { result ≡ next_value value.now cursor }
 {
     if cursor.out {
-        return NextValue::Done;
+        return None;
     }
     let at = base_numbers::least(cursor.at, value.len());
     let end = base_scan::find(value, at, b',');
@@ -48,5 +42,5 @@ pub fn next_value(value: &[u8], cursor: ValueCursor) -> NextValue
         at: base_numbers::least(end + 1, value.len()),
         out: end == value.len(),
     };
-    NextValue::Is(place, next)
+    Some((place, next))
 }

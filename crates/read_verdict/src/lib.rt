@@ -1,4 +1,4 @@
-// Says what a line is found to be: a directive, a comment, a record with its numbers, or refused by a number.
+// Says what a line is found to be: a directive, a comment, a record with its numbers, or refused, and why.
 //
 // A line of kind record is judged as unfolding it with room enough would judge it, without a buffer. Directives and comments are not
 // judged, however long they are.
@@ -10,7 +10,8 @@
 ghost use Rattle.std.specs.Prelude.{◌≡◌};
 ghost use Rattle.read_verdict.specs.Verdict.{verdict};
 
-use read_judge::{Numbers, NumbersRead};
+use base_refusals::Refusal;
+use read_judge::Numbers;
 use read_kind::Kind;
 
 #[derive(Clone, Copy)]
@@ -20,7 +21,7 @@ pub enum Verdict {
     // Start, end, strand and phase.
     Record(Numbers),
     // 24, 1, 2, 17, 3, 4 or 5.
-    Refused(u32),
+    Refused(Refusal),
 }
 
 // What a line is. Refusals, in order: 24, over 4,194,304 bytes; 1; 2 (start, then end); 17; 3; 4; 5.
@@ -31,8 +32,8 @@ pub fn verdict_of(line: &[u8]) -> Verdict
         Kind::Directive => Verdict::Directive,
         Kind::Comment => Verdict::Comment,
         Kind::Record => match read_judge::judge_numbers(line) {
-            NumbersRead::Is(numbers) => Verdict::Record(numbers),
-            NumbersRead::Refused(n) => Verdict::Refused(n),
+            Ok(numbers) => Verdict::Record(numbers),
+            Err(r) => Verdict::Refused(r),
         },
     }
 }

@@ -7,84 +7,60 @@
 // is written with one `.` between the parts reads back. Assumes nothing.
 #![tactic(auto)]
 
-ghost use Rattle.std.specs.Prelude.{◌≡◌, ◌≤◌, drop};
-ghost use Rattle.read_version.specs.GffVersion.{patch_of, minor_of, version_of};
+ghost use Rattle.std.specs.Prelude.{◌≡◌, ok_or};
+ghost use Rattle.base_scan.specs.Part as scan;
+ghost use Rattle.read_numbers.specs.Number.{version_part};
+ghost use Rattle.read_version.specs.GffVersion.{version_of};
 
-use read_numbers::Number;
+use base_refusals::Refusal;
 
-// A part that may be absent.
-#[derive(Clone, Copy)]
-pub enum Part {
-    Is(u32),
-    Absent,
-}
-
-#[derive(Clone, Copy)]
+// Minor and patch may be absent.
+#[derive(Clone, Copy, Debug, PartialEq, Eq)]
 pub struct GffVersion {
     pub major: u32,
-    pub minor: Part,
-    pub patch: Part,
+    pub minor: Option<u32>,
+    pub patch: Option<u32>,
 }
 
-#[derive(Clone, Copy)]
-pub enum VersionRead {
-    Is(GffVersion),
-    // 6 to 9.
-    Refused(u32),
-}
-
-// The patch is all that is left: a fourth part makes it not valid.
-fn patch(text: &[u8], at: usize, major: u32, minor: u32) -> VersionRead
-    ensures { result ≡ patch_of major minor (drop at text.now) }
+// The part from `at` on, before `to`.
+fn part(text: &[u8], at: usize, to: usize, refusal: Refusal) -> Result<u32, Refusal>
+    ensures { result ≡ ok_or (version_part (scan.part at to text.now)) refusal }
 {
-    match read_numbers::version_part(base_scan::part(text, at, text.len())) {
-        Number::Value(n) => VersionRead::Is(GffVersion {
-            major,
-            minor: Part::Is(minor),
-            patch: Part::Is(n as u32),
-        }),
-        Number::Invalid => VersionRead::Refused(9),
-    }
-}
-
-fn minor(text: &[u8], at: usize, major: u32) -> VersionRead
-    ensures { result ≡ minor_of major (drop at text.now) }
-{
-    let dot = base_scan::find(text, at, b'.');
-    match read_numbers::version_part(base_scan::part(text, at, dot)) {
-        Number::Value(n) => {
-            if dot == text.len() {
-                return VersionRead::Is(GffVersion {
-                    major,
-                    minor: Part::Is(n as u32),
-                    patch: Part::Absent,
-                });
-            }
-            patch(text, dot + 1, major, n as u32)
-        }
-        Number::Invalid => VersionRead::Refused(8),
-    }
+    let number = read_numbers::version_part(base_scan::part(text, at, to)).ok_or(refusal)?;
+    Ok(number as u32)
 }
 
 // A version: major, and minor and patch if they are there. `3.1.26.4` gives 9, `3.` gives 8, and `+3` is major 3. Major need not be 3.
-pub fn parse_gff_version(text: &[u8]) -> VersionRead
+// The refusals are 6 to 9.
+pub fn parse_gff_version(text: &[u8]) -> Result<GffVersion, Refusal>
     ensures { result ≡ version_of text.now }
 {
-    if text.len() == 0 {
-        return VersionRead::Refused(6);
+    if text.is_empty() {
+        return Err(Refusal::Empty);
     }
-    let dot = base_scan::find(text, 0, b'.');
-    match read_numbers::version_part(base_scan::part(text, 0, dot)) {
-        Number::Value(n) => {
-            if dot == text.len() {
-                return VersionRead::Is(GffVersion {
-                    major: n as u32,
-                    minor: Part::Absent,
-                    patch: Part::Absent,
-                });
-            }
-            minor(text, dot + 1, n as u32)
-        }
-        Number::Invalid => VersionRead::Refused(7),
+    let first = base_scan::find(text, 0, b'.');
+    let major = part(text, 0, first, Refusal::Major)?;
+    if first == text.len() {
+        return Ok(GffVersion {
+            major,
+            minor: None,
+            patch: None,
+        });
     }
+    let second = base_scan::find(text, first + 1, b'.');
+    let minor = Some(part(text, first + 1, second, Refusal::Minor)?);
+    if second == text.len() {
+        return Ok(GffVersion {
+            major,
+            minor,
+            patch: None,
+        });
+    }
+    // All that is left: a fourth part makes it not valid.
+    let patch = Some(part(text, second + 1, text.len(), Refusal::Patch)?);
+    Ok(GffVersion {
+        major,
+        minor,
+        patch,
+    })
 }

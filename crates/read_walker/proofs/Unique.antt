@@ -15,13 +15,15 @@ use denote.Steps.{heard}
 use denote.Triple.Clauses.{AtExit}
 use denote.Triple.Walked.{says}
 use Rattle.base_lists.proofs.One.{OneResult}
-use Rattle.read_attributes.specs.declared.field.Step.{Step}
-use Rattle.read_lookup.specs.declared.Found.{Found}
+use Rattle.std.specs.Prelude.{Option, Result}
+use Rattle.base_refusals.specs.declared.Refusal.{Refusal}
+use Rattle.base_scan.specs.declared.place.Place.{Place}
+use Rattle.read_attributes.specs.declared.field.Field.{Field}
 use Rattle.read_walker.specs.declared.Attributes.{Attributes}
-use Rattle.read_walker.specs.contracts.walk_over as walk_over
-use Rattle.read_walker.specs.contracts.next as next
-use Rattle.read_walker.specs.contracts.moved as moved
-use Rattle.read_walker.specs.contracts.get as get
+use Rattle.read_walker.specs.contracts.Attributes.walk_over as walk_over
+use Rattle.read_walker.specs.contracts.Attributes.next as next
+use Rattle.read_walker.specs.contracts.Attributes.moved as moved
+use Rattle.read_walker.specs.contracts.Attributes.get as get
 use Rattle.read_walker.proofs.first_field.Kinds as first_field_kinds
 use Rattle.read_walker.proofs.first_field.Reads as first_field
 
@@ -48,7 +50,7 @@ module _ {M : Type 1} {𝓤 : Ura M} (𝓛 : Logic 𝓤) (mem : Memory → SProp
       ((walk_over.clauses 𝓛 mem run κs (c, tt)).ensures tt y t)) (fact 𝓤 (x ≡ y))
   walk_over_one c x y s t = follows 𝓛 _ _ _ (λ p q. ap₂ walker (p.0 ∙ sym q.0) (p.1 ∙ sym q.1))
 
-  next_one : (d : Attributes) (x y : Step) (s t : AtExit next.ended κs)
+  next_one : (d : Attributes) (x y : Result (Option Field) Refusal) (s t : AtExit next.ended κs)
       → ent 𝓤 (sep 𝓤 ((next.clauses 𝓛 mem run κs (d, tt)).ensures tt x s) ((next.clauses 𝓛 mem run κs (d, tt)).ensures tt y t))
       (fact 𝓤 (x ≡ y))
   next_one d x y s t = follows 𝓛 _ _ _ (λ p q. p ∙ sym q)
@@ -61,7 +63,7 @@ module _ {M : Type 1} {𝓤 : Ura M} (𝓛 : Logic 𝓤) (mem : Memory → SProp
 -- the same of `get`, which has two lifetimes
 module _ {M : Type 1} {𝓤 : Ura M} (𝓛 : Logic 𝓤) (mem : Memory → SProp 𝓤) (run : Routine → Fun 𝓤)
     (κs : Lfts 2) where
-  get_one : (d : Attributes) (g : Bor (List ℕ)) (x y : Found) (s t : AtExit get.ended κs)
+  get_one : (d : Attributes) (g : Bor (List ℕ)) (x y : Result (Option Place) Refusal) (s t : AtExit get.ended κs)
       → ent 𝓤 (sep 𝓤 ((get.clauses 𝓛 mem run κs (d, (g, tt))).ensures tt x s)
       ((get.clauses 𝓛 mem run κs (d, (g, tt))).ensures tt y t)) (fact 𝓤 (x ≡ y))
   get_one d g x y s t = follows 𝓛 _ _ _ (λ p q. p ∙ sym q)

@@ -9,12 +9,9 @@ use lib.Dec.{leb}
 use lib.ListN.{length, take, drop, get_or, length-drop}
 use lib.Seq.{drop-drop, get_or-drop}
 use borrow.Author.Tests.{leb-true, leb-false}
+use Rattle.std.specs.Prelude.{Option, Some, None}
 use Rattle.base_scan.specs.declared.place.Place.{Place}
 use Rattle.base_scan.specs.Part.{text_at}
-use Rattle.sheet_form.specs.declared.read.CountRead.{CountRead}
-use Rattle.sheet_form.specs.declared.read.CountRead.TheVariants.{Is, Malformed}
-use Rattle.sheet_form.specs.declared.read.SectionRead.{SectionRead}
-use Rattle.sheet_form.specs.declared.read.SectionRead.TheVariants as part
 use Rattle.sheet_form.specs.Reader.{no_form, took, form_refusal, byte, read_count, times, counted}
 use Rattle.sheet_form.specs.Sheet.{section}
 use Rattle.sheet_form.specs.Cursor.{count_refusal, section_refusal, number_at, count_at, section_after, section_at}
@@ -60,9 +57,9 @@ module _ (s : List ℕ) (at : ℕ) where
     pub inside : next ≤ length s
 
   -- what an answer says of the reader from a cursor on
-  abbrev pub CountMeets : CountRead → Type 0
-  CountMeets Malformed = read_count (drop at s) ≡ no_form
-  CountMeets (Is n next) = CountHands n next
+  abbrev pub CountMeets : Option (ℕ × ℕ) → Type 0
+  CountMeets None = read_count (drop at s) ≡ no_form
+  CountMeets (Some (n, next)) = CountHands n next
 
   count_read_at : at + 4 ≤ length s → read_count (drop at s) ≡ took (number_at s at) (drop (at + 4) s)
   count_read_at h = count_front (drop at s) (simp length-drop (omega arith)) ∙ simp (get_or-drop, drop-drop, add-zero)
@@ -71,21 +68,21 @@ module _ (s : List ℕ) (at : ℕ) where
   unfolding count_at
   count_step_meets = go (leb (at + 4) (length s)) refl
     where
-      go : (t : Bool) → leb (at + 4) (length s) ≡ t → CountMeets (cond t (Is (number_at s at) (at + 4)) Malformed)
+      go : (t : Bool) → leb (at + 4) (length s) ≡ t → CountMeets (cond t (Some (number_at s at, at + 4)) None)
       go true e = let h = leb-true (at + 4) (length s) e in record { read = count_read_at h; behind = refl; inside = h }
       go false e = count_short (drop at s) (simp length-drop (omega (arith, leb-false (at + 4) (length s) e)))
 
   -- what a count was answered, as its caller has it
-  pub count_meets : {r k : CountRead} → r ≡ count_at s at → r ≡ k → CountMeets k
+  pub count_meets : {r k : Option (ℕ × ℕ)} → r ≡ count_at s at → r ≡ k → CountMeets k
   count_meets e f = rw (← f, e) count_step_meets
 
   -- the number of its refusal is the reader's
   pub count_refused : count_refusal (count_at s at) ≡ form_refusal (read_count (drop at s))
   count_refused = go (count_at s at) count_step_meets
     where
-      go : (r : CountRead) → CountMeets r → count_refusal r ≡ form_refusal (read_count (drop at s))
-      go Malformed m = rw m
-      go (Is n next) m = rw m.read
+      go : (r : Option (ℕ × ℕ)) → CountMeets r → count_refusal r ≡ form_refusal (read_count (drop at s))
+      go None m = rw m
+      go (Some (n, next)) m = rw m.read
 
   -- a section is read: what stands at the place; its end is the cursor behind it
   pub record SectionHands (place : Place) : Type 0 where
@@ -94,20 +91,20 @@ module _ (s : List ℕ) (at : ℕ) where
     pub ordered : place.start ≤ place.end
     pub inside : place.end ≤ length s
 
-  abbrev pub SectionMeets : SectionRead → Type 0
-  SectionMeets part.Malformed = section (drop at s) ≡ no_form
-  SectionMeets (part.At place) = SectionHands place
+  abbrev pub SectionMeets : Option Place → Type 0
+  SectionMeets None = section (drop at s) ≡ no_form
+  SectionMeets (Some place) = SectionHands place
 
   pub section_step_meets : SectionMeets (section_at s at)
   unfolding section_at counted
   section_step_meets = go (count_at s at) count_step_meets
     where
-      go : (r : CountRead) → CountMeets r → SectionMeets (section_after s r)
-      go Malformed m = rw m
-      go (Is n start) m = fits (leb (start + n) (length s)) refl
+      go : (r : Option (ℕ × ℕ)) → CountMeets r → SectionMeets (section_after s r)
+      go None m = rw m
+      go (Some (n, start)) m = fits (leb (start + n) (length s)) refl
         where
           fits : (t : Bool) → leb (start + n) (length s) ≡ t
-              → SectionMeets (cond t (part.At (record { start = start; end = start + n })) part.Malformed)
+              → SectionMeets (cond t (Some (record { start = start; end = start + n })) None)
           fits true e =
               let h = leb-true (start + n) (length s) e in
               record {
@@ -125,13 +122,13 @@ module _ (s : List ℕ) (at : ℕ) where
               rw (m.read, bytes_short n (drop start s) (simp length-drop (omega (arith, leb-false (start + n) (length s) e, m.inside))))
 
   -- what a section was answered, as its caller has it
-  pub section_meets : {r k : SectionRead} → r ≡ section_at s at → r ≡ k → SectionMeets k
+  pub section_meets : {r k : Option Place} → r ≡ section_at s at → r ≡ k → SectionMeets k
   section_meets e f = rw (← f, e) section_step_meets
 
   -- the number of its refusal is the reader's
   pub section_refused : section_refusal (section_at s at) ≡ form_refusal (section (drop at s))
   section_refused = go (section_at s at) section_step_meets
     where
-      go : (r : SectionRead) → SectionMeets r → section_refusal r ≡ form_refusal (section (drop at s))
-      go part.Malformed m = rw m
-      go (part.At place) m = rw m.read
+      go : (r : Option Place) → SectionMeets r → section_refusal r ≡ form_refusal (section (drop at s))
+      go None m = rw m
+      go (Some place) m = rw m.read

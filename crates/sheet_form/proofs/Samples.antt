@@ -1,12 +1,10 @@
 -- Samples, computed. Assumes nothing.
 use Prim.Native.Nat.{ℕ}
 use mathlib.Core.Path.{◌≡◌, refl}
-use mathlib.Core.Option.{none, some}
 use mathlib.Core.List.{List, [], ◌∷◌, ◌++◌, flat_map}
 use lib.ListN.{replicate}
+use Rattle.std.specs.Prelude.{Some, None}
 use Rattle.base_lists.specs.Bytes.{ascii}
-use Rattle.sheet_form.specs.declared.read.CountRead.TheVariants as count
-use Rattle.sheet_form.specs.declared.read.SectionRead.TheVariants as section
 use Rattle.sheet_form.specs.Reader.{read_count, times, times_some, counted, counted_some}
 use Rattle.sheet_form.specs.Sheet.{Sheet, read_attribute, read_sheet, ended, sheet_read, count_of, section_of, counted_of}
 use Rattle.sheet_form.specs.Sheet.{attribute_of, sheet_of}
@@ -32,20 +30,20 @@ bytes =
 -- RULES 9.1: twenty zero bytes are the smallest sheet; refused are one byte less, one more, the empty sheet, an attribute with a value
 -- count of 0, a count larger than the rest. A count is read low byte first, also at the largest, and not where it is cut off
 samples :
-    (sheet_read (zeros 20) ≡ some empty)
+    (sheet_read (zeros 20) ≡ Some empty)
     × (sheet_of empty ≡ zeros 20)
-    × (sheet_read (zeros 19) ≡ none)
-    × (sheet_read (zeros 21) ≡ none)
-    × (sheet_read [] ≡ none)
-    × (sheet_read (zeros 16 ++ (1 ∷ zeros 11)) ≡ none)
-    × (sheet_read (1 ∷ zeros 19) ≡ none)
-    × (sheet_read bytes ≡ some small)
+    × (sheet_read (zeros 19) ≡ None)
+    × (sheet_read (zeros 21) ≡ None)
+    × (sheet_read [] ≡ None)
+    × (sheet_read (zeros 16 ++ (1 ∷ zeros 11)) ≡ None)
+    × (sheet_read (1 ∷ zeros 19) ≡ None)
+    × (sheet_read bytes ≡ Some small)
     × (sheet_of small ≡ bytes)
-    × (count_at (0 ∷ 1 ∷ 2 ∷ 0 ∷ 0 ∷ []) 1 ≡ count.Is 513 5)
-    × (count_at (255 ∷ 255 ∷ 255 ∷ 255 ∷ []) 0 ≡ count.Is 4294967295 4)
-    × (count_at (zeros 4) 1 ≡ count.Malformed) × (count_at (zeros 4) 9 ≡ count.Malformed)
-    × (section_at bytes 0 ≡ section.At (record { start = 4; end = 7 }))
-    × (section_at (255 ∷ 255 ∷ 255 ∷ 255 ∷ []) 0 ≡ section.Malformed)
+    × (count_at (0 ∷ 1 ∷ 2 ∷ 0 ∷ 0 ∷ []) 1 ≡ Some (513, 5))
+    × (count_at (255 ∷ 255 ∷ 255 ∷ 255 ∷ []) 0 ≡ Some (4294967295, 4))
+    × (count_at (zeros 4) 1 ≡ None) × (count_at (zeros 4) 9 ≡ None)
+    × (section_at bytes 0 ≡ Some (record { start = 4; end = 7 }))
+    × (section_at (255 ∷ 255 ∷ 255 ∷ 255 ∷ []) 0 ≡ None)
 unfolding read_count times times_some counted counted_some read_attribute read_sheet ended count_of section_of counted_of attribute_of
     sheet_of count_at section_at flat_map
 samples = (refl, refl, refl, refl, refl, refl, refl, refl, refl, refl, refl, refl, refl, refl, refl)

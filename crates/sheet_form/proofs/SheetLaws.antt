@@ -5,7 +5,7 @@ use native.Mathlib.Omega.{arith}
 use mathlib.Core.Path.{◌≡◌, refl, ap, ◌∙◌}
 use mathlib.Core.Logic.{◌≢◌}
 use mathlib.Core.List.{List, [], ◌∷◌, ◌++◌, flat_map, append_assoc, append-nil}
-use mathlib.Core.Option.{some, none-ne-some}
+use Rattle.std.specs.Prelude.{Some}
 use lib.ListN.{length}
 use Rattle.base_lists.specs.Bytes.{Every, Bytes}
 use Rattle.read_attributes.specs.Attributes.{Attribute}
@@ -238,19 +238,19 @@ sheet_codes = record {
 -- ── the promises ──────────────────────────────────────────────────────────────────────────────
 
 -- a sheet reads back
-pub read_of : (a : Sheet) → GoodSheet a → sheet_read (sheet_of a) ≡ some a
+pub read_of : (a : Sheet) → GoodSheet a → sheet_read (sheet_of a) ≡ Some a
 unfolding ended
 read_of a g = rw (← append-nil (sheet_of a), sheet_codes.back a [] g)
 
 -- bytes that read as a sheet are those of the sheet that was read
-pub of_read : (s : List ℕ) (a : Sheet) → Bytes s → sheet_read s ≡ some a → GoodSheet a × (s ≡ sheet_of a)
+pub of_read : (s : List ℕ) (a : Sheet) → Bytes s → sheet_read s ≡ Some a → GoodSheet a × (s ≡ sheet_of a)
 unfolding ended
 of_read s a h e = go (read_sheet s) (sheet_codes.only s h) e
   where
-    go : (m : Taken Sheet) → Of (Front GoodSheet sheet_of s) m → ended m ≡ some a → GoodSheet a × (s ≡ sheet_of a)
-    go no_form p e = absurd (none-ne-some a e)
+    go : (m : Taken Sheet) → Of (Front GoodSheet sheet_of s) m → ended m ≡ Some a → GoodSheet a × (s ≡ sheet_of a)
+    go no_form p e = cc
     go (took b []) p e = let q : b ≡ a = cc in (rw q at p.good, rw q at (p.whole ∙ append-nil (sheet_of b)))
-    go (took b (x ∷ t)) p e = absurd (none-ne-some a e)
+    go (took b (x ∷ t)) p e = cc
 
 -- and those of no other
 pub sheet_of_one : (a b : Sheet) → GoodSheet a → GoodSheet b → sheet_of a ≡ sheet_of b → a ≡ b

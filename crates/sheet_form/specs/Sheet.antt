@@ -1,8 +1,7 @@
 -- The field sheet, RULES 9.1: sections in a fixed order, each after its count: column 1, source, type, score (count 0: missing),
 -- attributes. Assumes nothing: these are definitions.
-use Rattle.std.specs.Prelude.{Bool, true, false, ℕ, ◌/◌, ◌%◌, length}
+use Rattle.std.specs.Prelude.{ℕ, ◌/◌, ◌%◌, length, Option, Some, None}
 use mathlib.Core.List.{List, [], ◌∷◌, ◌++◌, flat_map}
-use Rattle.std.proofs.Math.Option.{Option, none, some}
 use Rattle.read_attributes.specs.Attributes.{Attribute}
 use Rattle.sheet_form.specs.Reader.{Taken, no_form, took, Reader, ◌>>=◌, give, byte, counted, counted_some}
 
@@ -37,17 +36,13 @@ read_sheet = do
 
 -- "nothing follows"
 unfoldable pub ended : {A : Type 0} → Taken A → Option A
-ended no_form = none
-ended (took a []) = some a
-ended (took a (x ∷ s)) = none
+ended no_form = None
+ended (took a []) = Some a
+ended (took a (x ∷ s)) = None
 
+-- where nothing was read, the refusal is 23
 abbrev pub sheet_read : List ℕ → Option Sheet
 sheet_read s = ended (read_sheet s)
-
--- whether anything was read: where nothing, the refusal is 23
-abbrev pub is_some : {A : Type 0} → Option A → Bool
-is_some none = false
-is_some (some a) = true
 
 -- ── written ──
 

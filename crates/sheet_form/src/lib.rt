@@ -6,4 +6,4 @@
 
 mod read;
 
-pub use read::{CountRead, SectionRead, count_at, section_at};
+pub use read::{count_at, section_at};

@@ -6,6 +6,7 @@ use mathlib.Core.Path.{◌≡◌}
 use mathlib.Core.Logic.{◌≢◌}
 use mathlib.Core.Bool.{false}
 use mathlib.Core.List.{List, [], ◌∷◌}
+use Rattle.std.specs.Prelude.{None}
 use lib.ListN.{get_or}
 use borrow.Author.Tests.{eqb-false}
 use Rattle.base_lists.specs.Bytes.{hash}
@@ -24,7 +25,7 @@ unfolding hashed
 first_byte [] e = λ p. omega arith
 first_byte (x ∷ s) e = eqb-false x hash e
 
-module _ (text : List ℕ) (accepted : refusal_of (comment_reasons text) ≡ 0) where
+module _ (text : List ℕ) (accepted : refusal_of (comment_reasons text) ≡ None) where
   pub comment_kind : kind (comment_line text) ≡ Comment
   comment_kind = kind_comment text (first_byte text (plain text accepted).unhashed)
 

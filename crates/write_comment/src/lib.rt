@@ -8,42 +8,43 @@
 #![tactic(auto)]
 
 ghost use Rattle.std.specs.Prelude.{◌≡◌};
-ghost use Rattle.base_buffer.specs.Answer.{Wrote, refusal_of};
+ghost use Rattle.base_buffer.specs.Answer.{Wrote, refusal_of, unless};
 ghost use Rattle.write_comment.specs.Comment.{hashed, comment_reasons, comment_line};
 
-use base_buffer::Written;
+use base_buffer::WriteError;
+use base_refusals::Refusal;
 
 fn is_hashed(text: &[u8]) -> bool
     ensures { result ≡ hashed text.now }
 {
-    if text.len() == 0 {
-        return false;
-    }
-    text[0] == b'#'
+    text.first().copied() == Some(b'#')
 }
 
-fn refusal(text: &[u8]) -> u32
-    ensures { result ≡ refusal_of (comment_reasons text.now) }
+// The first reason to refuse a text.
+fn refusal(text: &[u8]) -> Result<(), Refusal>
+    ensures { result ≡ unless (refusal_of (comment_reasons text.now)) tt }
 {
-    let n = base_numbers::either(write_texts::breaks(text) | is_hashed(text), 20, 0);
-    base_numbers::either(write_texts::is_long(text), 24, n)
+    if write_texts::is_long(text) {
+        return Err(Refusal::TooLong);
+    }
+    if write_texts::breaks(text) | is_hashed(text) {
+        return Err(Refusal::Text);
+    }
+    Ok(())
 }
 
 // Writes `#` and the text at the start of a buffer. Refusals, in order: 24, the text is over 1,048,576 bytes; 20, it holds a carriage
 // return or a line feed, or begins with `#`, which would make it a directive; 22, with the length needed, where the line does not fit.
 // The empty text is written as `#`.
-pub fn write_comment(text: &[u8], out: &mut [u8]) -> Written
+pub fn write_comment(text: &[u8], out: &mut [u8]) -> Result<usize, WriteError>
     ensures { Wrote (comment_reasons text.now) (comment_line text.now) out.old out.new result }
 {
-    let refused = refusal(text);
-    if refused != 0 {
-        return Written::Refused(refused);
-    }
+    refusal(text)?;
     let need = 1 + text.len();
     if out.len() < need {
-        return Written::NoRoom(need);
+        return Err(WriteError::NoRoom(need));
     }
     let at = base_buffer::lay_byte(b'#', out, 0);
     base_buffer::lay(text, out, at);
-    Written::Done(need)
+    Ok(need)
 }

@@ -5,7 +5,7 @@ use mathlib.Core.Path.{◌≡◌, refl, ap, ◌∙◌}
 use mathlib.Core.Logic.{◌⊎◌, inl, inr, ◌≢◌}
 use mathlib.Core.Bool.{Bool, true, false}
 use mathlib.Core.List.{List, [], ◌∷◌, ◌++◌}
-use Prim.Native.Nat.{ℕ, zero, suc, ◌+◌, ◌/◌, ◌%◌, ◌^◌, ◌≤◌, ◌<◌}
+use Prim.Native.Nat.{ℕ, zero, suc, ◌+◌, ◌*◌, ◌/◌, ◌%◌, ◌^◌, ◌≤◌, ◌<◌}
 use lib.Dec.{leb}
 use lib.ListN.{length, get_or, length-append, get_or-append}
 use borrow.Author.Tests.{lt-ltb, le-ltb, le-leb, leb-true, ne_eqb}
@@ -15,7 +15,7 @@ use Rattle.base_lists.proofs.EveryLaws.{every_append, every_each, every_lacks}
 use Rattle.base_lists.proofs.OrderLaws.{le_or_lt}
 use Rattle.base_lists.proofs.SansLaws.{sans_none}
 use Rattle.base_scan.specs.Find.{is}
-use Rattle.read_numbers.specs.declared.read.Number.TheVariants.{Value}
+use Rattle.std.specs.Prelude.{Some}
 use Rattle.write_decimals.specs.Decimal.{digits, decimal}
 use Rattle.read_numbers.specs.Number.{is_digit, digits_value_after, digits_value, numeral, most64, most32, position, region_position}
 use Rattle.read_numbers.specs.Number.{version_part}
@@ -111,24 +111,36 @@ length_decimal n h = decimal_rec (λ m s. (j : ℕ) → m < 10 ^ suc j → lengt
 pub length_more : (n : ℕ) → 10 ≤ n → length (decimal n) ≡ length (decimal (n / 10)) + 1
 length_more n h = ap length (decimal_more n h) ∙ simp length-append
 
+pow_pos10 : (k : ℕ) → 0 < 10 ^ k
+pow_pos10 zero = omega arith
+pow_pos10 (suc k) = rw (pow-succ' 10 k) (omega (arith, pow_pos10 k))
+
+-- from a power of ten to the next it has one digit more than the power has zeros
+pub length_power : (k n : ℕ) → 10 ^ k ≤ n → n < 10 * 10 ^ k → length (decimal n) ≡ k + 1
+length_power zero n low high = ap length (decimal_one n (omega arith))
+length_power (suc k) n low high =
+    let p : 10 ^ suc k ≡ 10 * 10 ^ k = pow-succ' 10 k in
+    let some : 0 < 10 ^ k = omega (arith, pow_pos10 k) in
+    length_more n (omega (arith, p)) ∙ omega (arith, length_power k (n / 10) (omega (arith, p)) (omega (arith, p)))
+
 -- ── read back ─────────────────────────────────────────────────────────────────────────────────
 
 module _ (low high n : ℕ) (h : low ≤ n) (g : n ≤ high) where
   -- whatever the bounds
-  pub numeral_decimal : numeral low high (decimal n) ≡ Value n
+  pub numeral_decimal : numeral low high (decimal n) ≡ Some n
   numeral_decimal = numeral_value (decimal n) (decimal_some n) (decimal_digits n) (value_decimal n) h g
 
   -- and where a `+` may stand before the digits
-  pub plus_decimal : numeral low high (sans (is plus) (decimal n)) ≡ Value n
+  pub plus_decimal : numeral low high (sans (is plus) (decimal n)) ≡ Some n
   plus_decimal =
       rw (sans_none (is plus) (decimal n) (decimal_fails (is plus) (λ x a b. ne_eqb x plus (omega arith)) n)) numeral_decimal
 
 -- so in each of the three forms
-pub position_decimal : (n : ℕ) → 1 ≤ n → n ≤ most64 → position (decimal n) ≡ Value n
+pub position_decimal : (n : ℕ) → 1 ≤ n → n ≤ most64 → position (decimal n) ≡ Some n
 position_decimal n = numeral_decimal 1 most64 n
 
-pub region_position_decimal : (n : ℕ) → 1 ≤ n → n ≤ most64 → region_position (decimal n) ≡ Value n
+pub region_position_decimal : (n : ℕ) → 1 ≤ n → n ≤ most64 → region_position (decimal n) ≡ Some n
 region_position_decimal n = plus_decimal 1 most64 n
 
-pub version_part_decimal : (n : ℕ) → n ≤ most32 → version_part (decimal n) ≡ Value n
+pub version_part_decimal : (n : ℕ) → n ≤ most32 → version_part (decimal n) ≡ Some n
 version_part_decimal n h = plus_decimal 0 most32 n (omega arith) h

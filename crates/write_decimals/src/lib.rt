@@ -12,40 +12,51 @@ ghost use Rattle.base_buffer.specs.Answer.{Wrote};
 ghost use Rattle.base_buffer.specs.Laid.{Lays};
 ghost use Rattle.write_decimals.specs.Decimal.{decimal};
 
-use base_buffer::Written;
+use base_buffer::WriteError;
+use base_sink::{Page, Sink};
 
 // How many digits n has: 1 to 20.
 pub fn decimal_len(n: u64) -> usize
     ensures { (result ≡ length (decimal n)) × (result ≤ 20) }
 {
-    let mut v = n;
-    let mut count = 1;
-    while 10 <= v {
-        v = v / 10;
-        count += 1;
+    match n.checked_ilog10() {
+        Some(k) => 1 + k as usize,
+        None => 1,
     }
-    count
 }
 
 // Lays the digits of n over a buffer from `at` on.
 pub fn lay_decimal(n: u64, out: &mut [u8], at: usize) -> usize
     ensures { Lays (decimal n) out.old at out.new result }
 {
+    let mut page = Page {
+        at: at.min(out.len()),
+        out,
+    };
+    put_decimal(n, &mut page);
+    page.at
+}
+
+// Puts the digits of n into a sink.
+pub fn put_decimal<S: Sink>(n: u64, sink: &mut S)
+    ensures { S.took (decimal n) sink.old sink.new }
+{
     if n < 10 {
-        return base_buffer::lay_byte(48 + n as u8, out, at);
+        sink.byte(48 + n as u8);
+        return;
     }
-    let last = lay_decimal(n / 10, out, at);
-    base_buffer::lay_byte(48 + (n % 10) as u8, out, last)
+    put_decimal(n / 10, sink);
+    sink.byte(48 + (n % 10) as u8);
 }
 
 // Writes the digits of n at the start of a buffer; refusal 22 where they do not fit.
-pub fn write_decimal(n: u64, out: &mut [u8]) -> Written
+pub fn write_decimal(n: u64, out: &mut [u8]) -> Result<usize, WriteError>
     ensures { Wrote [] (decimal n) out.old out.new result }
 {
     let need = decimal_len(n);
     if out.len() < need {
-        return Written::NoRoom(need);
+        return Err(WriteError::NoRoom(need));
     }
     lay_decimal(n, out, 0);
-    Written::Done(need)
+    Ok(need)
 }

@@ -1,4 +1,5 @@
-pub mod PieceLaws
+pub mod FewLaws
 pub mod ReasonLaws
 pub mod RoundTrip
+pub mod TypedLaws
 mod Unique

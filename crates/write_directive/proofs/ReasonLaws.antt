@@ -1,10 +1,10 @@
 -- What is known of a directive where no reason holds to refuse it. Assumes nothing.
-use Prim.Native.Nat.{ℕ, ◌≤◌, ◌<◌}
-use native.Mathlib.Omega.{arith}
+use Prim.Native.Nat.{ℕ, ◌≤◌}
 use mathlib.Core.Path.{◌≡◌}
 use mathlib.Core.Bool.{false, ◌||◌}
 use mathlib.Core.List.{List}
 use lib.ListN.{length}
+use Rattle.std.specs.declared.option.Option.TheVariants as option
 use borrow.Author.Tests.{ltb-false}
 use Rattle.base_lists.specs.Bytes.{Every}
 use Rattle.base_lists.specs.Limits.{most_text}
@@ -22,12 +22,6 @@ use Rattle.write_directive.specs.Version.{version_reasons}
 use Rattle.write_directive.specs.Region.{region_reasons}
 use Rattle.write_directive.specs.GenomeBuild.{build_reasons}
 use Rattle.write_directive.specs.Directive.{directive_reasons}
-use Rattle.write_directive.specs.Inner.Short.{Short}
-
--- each reason has a number, so that 0 stands for none
-pub reasons_numbered : (key : List ℕ) (faults : Faults) → Every (λ x. 0 < x.number) (reasons key faults)
-unfolding reasons
-reasons_numbered key faults = (omega arith, (omega arith, (omega arith, (omega arith, (omega arith, (omega arith, tt))))))
 
 -- where none holds: of the key, and of the faults of the value
 pub record Clear (key : List ℕ) (faults : Faults) : Type 0 where
@@ -39,15 +33,15 @@ pub record Clear (key : List ℕ) (faults : Faults) : Type 0 where
   pub whole : faults.minorless ≡ false
   pub some : faults.zero ≡ false
 
-pub clear : (key : List ℕ) (faults : Faults) → refusal_of (reasons key faults) ≡ 0 → Clear key faults
+pub clear : (key : List ℕ) (faults : Faults) → refusal_of (reasons key faults) ≡ option.None → Clear key faults
 unfolding reasons
 clear key faults e =
-    let a = none_holds (long key || faults.long) 23 _ e in
-    let b = none_holds faults.foreign 20 _ a.1 in
-    let c = none_holds (holds is_space key) 18 _ b.1 in
-    let d = none_holds faults.unfit 19 _ c.1 in
-    let f = none_holds faults.minorless 8 _ d.1 in
-    let g = none_holds faults.zero 1 _ f.1 in
+    let a = none_holds (long key || faults.long) _ _ e in
+    let b = none_holds faults.foreign _ _ a.1 in
+    let c = none_holds (holds is_space key) _ _ b.1 in
+    let d = none_holds faults.unfit _ _ c.1 in
+    let f = none_holds faults.minorless _ _ d.1 in
+    let g = none_holds faults.zero _ _ f.1 in
     record {
       short_key = ltb-false _ _ (or_left (long key) faults.long a.0);
       inked_key = c.0;
@@ -58,31 +52,15 @@ clear key faults e =
       some = g.0;
     }
 
--- so the key is short and has no white space
-pub clear_key : (key : List ℕ) (value : Value) (first second : List ℕ) → refusal_of (directive_reasons key value first second) ≡ 0
-    → (length key ≤ most_text) × Every (λ x. is_space x ≡ false) key
+-- so the key has no white space
+pub clear_key : (key : List ℕ) (value : Value) (first second : List ℕ) → refusal_of (directive_reasons key value first second) ≡ option.None
+    → Every (λ x. is_space x ≡ false) key
 unfolding directive_reasons version_reasons region_reasons build_reasons
 clear_key key value first second = by value
   where
-    of : {faults : Faults} → Clear key faults → (length key ≤ most_text) × Every (λ x. is_space x ≡ false) key
-    of c = (c.short_key, holds_none is_space key c.inked_key)
-
-    by : (v : Value) → refusal_of (directive_reasons key v first second) ≡ 0
-        → (length key ≤ most_text) × Every (λ x. is_space x ≡ false) key
-    by None e = of (clear _ _ e)
-    by Text e = of (clear _ _ e)
-    by (Version v) e = of (clear _ _ e)
-    by (Region start end) e = of (clear _ _ e)
-    by Build e = of (clear _ _ e)
-
--- and so are the texts that the value uses
-pub clear_texts : (key : List ℕ) (value : Value) (first second : List ℕ) → refusal_of (directive_reasons key value first second) ≡ 0
-    → Short value first second
-unfolding directive_reasons version_reasons region_reasons build_reasons Short
-clear_texts key None first second e = tt
-clear_texts key Text first second e = ltb-false _ _ (clear _ _ e).short
-clear_texts key (Version v) first second e = tt
-clear_texts key (Region start end) first second e = ltb-false _ _ (clear _ _ e).short
-clear_texts key Build first second e =
-    let c = clear _ _ e in
-    (ltb-false _ _ (or_left (long first) (long second) c.short), ltb-false _ _ (or_right (long first) (long second) c.short))
+    by : (v : Value) → refusal_of (directive_reasons key v first second) ≡ option.None → Every (λ x. is_space x ≡ false) key
+    by None e = holds_none is_space key (clear _ _ e).inked_key
+    by Text e = holds_none is_space key (clear _ _ e).inked_key
+    by (Version v) e = holds_none is_space key (clear _ _ e).inked_key
+    by (Region start end) e = holds_none is_space key (clear _ _ e).inked_key
+    by Build e = holds_none is_space key (clear _ _ e).inked_key

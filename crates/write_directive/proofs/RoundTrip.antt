@@ -1,12 +1,15 @@
 -- What the writer accepts reads back as it was, and is one line: where no reason holds to refuse it, a directive is read as one of the
 -- same key and value text, and a typed value comes back from its own reader. Assumes nothing.
+use Rattle.std.specs.Prelude.{Option, is_none, is_some}
+use Rattle.std.specs.declared.option.Option.TheVariants as option
 use Prim.Native.Nat.{ℕ, ◌≤◌, ◌<◌}
 use native.Mathlib.Omega.{arith}
 use mathlib.Core.Path.{◌≡◌, refl, sym, ap, ◌∙◌}
 use mathlib.Core.Logic.{◌≢◌}
-use mathlib.Core.Bool.{true, false, not, ◌&&◌, true≢false}
+use mathlib.Core.Bool.{true, false, ◌&&◌, true≢false}
 use mathlib.Core.List.{List, [], ◌∷◌, ◌++◌, append-nil}
 use lib.Dec.{eqb}
+use Rattle.std.specs.declared.option.Option.TheVariants as option
 use Rattle.base_lists.specs.Bytes.{Every, Lacks, lf, cr, sp}
 use Rattle.base_lists.proofs.EveryLaws.{every_append}
 use Rattle.base_lists.proofs.BoolLaws.{or_left, or_right}
@@ -21,8 +24,6 @@ use Rattle.read_kind.specs.Kind.{kind}
 use Rattle.read_lines.specs.Lines.{OneLine}
 use Rattle.read_kind.specs.Reading.{ReadsDirective}
 use Rattle.read_kind.proofs.KindLaws.{kind_directive, directive_reads, directive_reads_alone}
-use Rattle.read_version.specs.declared.Part.{Part}
-use Rattle.read_version.specs.declared.Part.TheVariants as part
 use Rattle.read_version.specs.GffVersion.{version, version_of}
 use Rattle.read_version.proofs.VersionLaws.{version_major, version_minor, version_patch}
 use Rattle.read_directives.proofs.RegionLaws.{region_reads}
@@ -31,7 +32,7 @@ use Rattle.write_texts.specs.Text.{breaks, unfit}
 use Rattle.write_texts.proofs.TextLaws.{no_return, no_feed, fit_word}
 use Rattle.write_directive.specs.declared.directive.Value.{Value}
 use Rattle.write_directive.specs.declared.directive.Value.TheVariants.{None, Text, Version, Region, Build}
-use Rattle.write_directive.specs.Version.{absent, dotted, version_reasons, version_text}
+use Rattle.write_directive.specs.Version.{dotted, version_reasons, version_text}
 use Rattle.write_directive.specs.Region.{region_reasons, region_text}
 use Rattle.write_directive.specs.GenomeBuild.{build_reasons, build_text}
 use Rattle.write_directive.specs.Directive.{directive_reasons, tail, directive_line}
@@ -51,17 +52,17 @@ tail_back key Build first second h = directive_reads key h (build_text first sec
 
 -- ── a typed value ─────────────────────────────────────────────────────────────────────────────
 
-version_back : (major : ℕ) (minor patch : Part) → major ≤ most32 → Within minor → Within patch
-    → (absent minor && not (absent patch)) ≡ false
+version_back : (major : ℕ) (minor patch : Option ℕ) → major ≤ most32 → Within minor → Within patch
+    → (is_none minor && is_some patch) ≡ false
     → version_of (decimal major ++ (dotted minor ++ dotted patch)) ≡ version major minor patch
-unfolding absent dotted
-version_back major part.Absent part.Absent h g k e = rw (append-nil (decimal major)) (version_major major h)
-version_back major part.Absent (part.Is p) h g k e = absurd (true≢false e)
-version_back major (part.Is m) part.Absent h g k e = rw (append-nil (decimal m)) (version_minor major h m g)
-version_back major (part.Is m) (part.Is p) h g k e = version_patch major h m g p k
+unfolding dotted
+version_back major option.None option.None h g k e = rw (append-nil (decimal major)) (version_major major h)
+version_back major option.None (option.Some p) h g k e = absurd (true≢false e)
+version_back major (option.Some m) option.None h g k e = rw (append-nil (decimal m)) (version_minor major h m g)
+version_back major (option.Some m) (option.Some p) h g k e = version_patch major h m g p k
 
 value_back : (key : List ℕ) (value : Value) (first second : List ℕ) → Sized value
-    → refusal_of (directive_reasons key value first second) ≡ 0 → Back value first second
+    → refusal_of (directive_reasons key value first second) ≡ option.None → Back value first second
 unfolding directive_reasons version_reasons region_reasons build_reasons Sized Back version_text region_text build_text
 value_back key None first second s e = tt
 value_back key Text first second s e = tt
@@ -92,12 +93,12 @@ module _ (c : ℕ) (small : c < sp) (white : is_space c ≡ true) (digit : is_di
   space : sp ≢ c
   space e = omega arith
 
-  dotted_lacks : (p : Part) → Lacks c (dotted p)
+  dotted_lacks : (p : Option ℕ) → Lacks c (dotted p)
   unfolding dotted
-  dotted_lacks (part.Is n) = ((λ e. omega arith), decimal_lacks c n digit)
-  dotted_lacks part.Absent = tt
+  dotted_lacks (option.Some n) = ((λ e. omega arith), decimal_lacks c n digit)
+  dotted_lacks option.None = tt
 
-  tail_lacks : (key : List ℕ) (value : Value) (first second : List ℕ) → refusal_of (directive_reasons key value first second) ≡ 0
+  tail_lacks : (key : List ℕ) (value : Value) (first second : List ℕ) → refusal_of (directive_reasons key value first second) ≡ option.None
       → Lacks c (tail value first second)
   unfolding directive_reasons version_reasons region_reasons build_reasons tail version_text region_text build_text
   tail_lacks key None first second e = tt
@@ -119,24 +120,24 @@ module _ (c : ℕ) (small : c < sp) (white : is_space c ≡ true) (digit : is_di
             (space, inked_lacks second (fit_word second (or_right (unfit first) (unfit second) f)).0),
       )
 
-  line_lacks : (key : List ℕ) (value : Value) (first second : List ℕ) → refusal_of (directive_reasons key value first second) ≡ 0
+  line_lacks : (key : List ℕ) (value : Value) (first second : List ℕ) → refusal_of (directive_reasons key value first second) ≡ option.None
       → Lacks c (directive_line key value first second)
   line_lacks key value first second e = (
     (λ p. omega arith),
     (
       (λ p. omega arith),
-      both key (tail value first second) (inked_lacks key (clear_key key value first second e).1) (tail_lacks key value first second e),
+      both key (tail value first second) (inked_lacks key (clear_key key value first second e)) (tail_lacks key value first second e),
     ),
   )
 
 -- ── the directive as a whole ──────────────────────────────────────────────────────────────────
 
-module _ (key : List ℕ) (value : Value) (first second : List ℕ) (accepted : refusal_of (directive_reasons key value first second) ≡ 0) where
+module _ (key : List ℕ) (value : Value) (first second : List ℕ) (accepted : refusal_of (directive_reasons key value first second) ≡ option.None) where
   pub directive_kind : kind (directive_line key value first second) ≡ Directive
   directive_kind = kind_directive (key ++ tail value first second)
 
   pub directive_back : ReadsDirective (directive_line key value first second) key (value_text value first second)
-  directive_back = tail_back key value first second (clear_key key value first second accepted).1
+  directive_back = tail_back key value first second (clear_key key value first second accepted)
 
   pub typed_back : Sized value → Back value first second
   typed_back sized = value_back key value first second sized accepted

@@ -1,6 +1,5 @@
 pub mod Directive
 pub mod GenomeBuild
-pub mod Inner
 pub mod Judge
 pub mod Reading
 pub mod Region

@@ -1,13 +1,9 @@
 -- What it means that a value reads back, RULES 9.4: its text, and a typed value from its own parser. Assumes nothing: these are
 -- definitions.
-use Rattle.std.specs.Prelude.{ℕ, ◌+◌, ◌≤◌, ◌≡◌, List, length}
-use Rattle.std.proofs.Math.Option.{Option, none, some}
+use Rattle.std.specs.Prelude.{ℕ, ◌+◌, ◌≤◌, ◌≡◌, List, length, Option, Ok}
+use Rattle.std.specs.declared.option.Option.TheVariants as option
 use Rattle.base_scan.specs.Part.{text_at}
 use Rattle.read_numbers.specs.Number.{most32, most64}
-use Rattle.read_version.specs.declared.Part.{Part}
-use Rattle.read_version.specs.declared.Part.TheVariants as part
-use Rattle.read_directives.specs.declared.sequence_region.RegionRead.TheVariants as region
-use Rattle.read_directives.specs.declared.genome_build.BuildRead.TheVariants as build
 use Rattle.read_version.specs.GffVersion.{version, version_of}
 use Rattle.read_directives.specs.SequenceRegion.{region_of}
 use Rattle.read_directives.specs.GenomeBuild.{build_of}
@@ -19,16 +15,16 @@ use Rattle.write_directive.specs.GenomeBuild.{build_text}
 
 -- the value's text, if there is a value
 unfoldable pub value_text : Value → List ℕ → List ℕ → Option (List ℕ)
-value_text None first second = none
-value_text Text first second = some first
-value_text (Version v) first second = some (version_text v)
-value_text (Region start end) first second = some (region_text first start end)
-value_text Build first second = some (build_text first second)
+value_text None first second = option.None
+value_text Text first second = option.Some first
+value_text (Version v) first second = option.Some (version_text v)
+value_text (Region start end) first second = option.Some (region_text first start end)
+value_text Build first second = option.Some (build_text first second)
 
 -- the numbers fit their types: 32 bits in a version, 64 in a region
-abbrev pub Within : Part → Type 0
-Within (part.Is n) = n ≤ most32
-Within part.Absent = Unit {0}
+abbrev pub Within : Option ℕ → Type 0
+Within (option.Some n) = n ≤ most32
+Within option.None = Unit {0}
 
 unfoldable pub Sized : Value → Type 0
 Sized None = Unit {0}
@@ -43,9 +39,9 @@ Back None first second = Unit {0}
 Back Text first second = Unit {0}
 Back (Version v) first second = version_of (version_text v) ≡ version v.major v.minor v.patch
 Back (Region start end) first second =
-    (region_of (region_text first start end) ≡ region.Is (record { name = record { start = 0; end = length first }; start = start; end = end }))
+    (region_of (region_text first start end) ≡ Ok (record { name = record { start = 0; end = length first }; start = start; end = end }))
     × (text_at (record { start = 0; end = length first }) (region_text first start end) ≡ first)
 Back Build first second =
-    (build_of (build_text first second) ≡ build.Is (record { source = record { start = 0; end = length first }; name = record { start = length first + 1; end = length first + 1 + length second } }))
+    (build_of (build_text first second) ≡ Ok (record { source = record { start = 0; end = length first }; name = record { start = length first + 1; end = length first + 1 + length second } }))
     × (text_at (record { start = 0; end = length first }) (build_text first second) ≡ first)
     × (text_at (record { start = length first + 1; end = length first + 1 + length second }) (build_text first second) ≡ second)

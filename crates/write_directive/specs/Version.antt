@@ -1,21 +1,15 @@
 -- The value of `gff-version` as it is written, GFF3, Directives; RULES 7.2: major, and minor and patch if they are there, with `.` between
 -- them. Assumes nothing: these are definitions.
-use Rattle.std.specs.Prelude.{ℕ, Bool, true, false, not, ◌&&◌, List, [], ◌∷◌, ◌++◌}
+use Rattle.std.specs.Prelude.{ℕ, false, not, ◌&&◌, List, [], ◌∷◌, ◌++◌, Option, None, Some, is_none, is_some}
 use Rattle.base_lists.specs.Bytes.{ascii, sp, dot}
 use Rattle.base_words.specs.Same.{same}
 use Rattle.base_buffer.specs.Answer.{Reason}
 use Rattle.write_decimals.specs.Decimal.{decimal}
 use Rattle.read_version.specs.declared.GffVersion.{GffVersion}
-use Rattle.read_version.specs.declared.Part.{Part}
-use Rattle.read_version.specs.declared.Part.TheVariants.{Is, Absent}
 use Rattle.write_directive.specs.Judge.{reasons}
 
 abbrev pub version_key : List ℕ
 version_key = ascii "gff-version"
-
-unfoldable pub absent : Part → Bool
-absent (Is n) = false
-absent Absent = true
 
 unfoldable pub version_reasons : List ℕ → GffVersion → List Reason
 version_reasons key v =
@@ -24,14 +18,14 @@ version_reasons key v =
       long = false;
       foreign = not (same key version_key);
       unfit = false;
-      minorless = absent v.minor && not (absent v.patch);
+      minorless = is_none v.minor && is_some v.patch;
       zero = false;
     })
 
 -- a part that may be absent, and its dot
-unfoldable pub dotted : Part → List ℕ
-dotted (Is n) = dot ∷ decimal n
-dotted Absent = []
+unfoldable pub dotted : Option ℕ → List ℕ
+dotted (Some n) = dot ∷ decimal n
+dotted None = []
 
 -- the value
 unfoldable pub version_text : GffVersion → List ℕ

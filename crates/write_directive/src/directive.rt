@@ -1,13 +1,12 @@
 // A directive: `##`, the key, and a space and the value where there is one.
-ghost use Rattle.std.specs.Prelude.{◌≡◌, ◌+◌, ◌*◌, ◌≤◌, length};
-ghost use Rattle.base_lists.specs.Limits.{most_text};
-ghost use Rattle.base_buffer.specs.Laid.{Lays};
-ghost use Rattle.base_buffer.specs.Answer.{Wrote, refusal_of};
+ghost use Rattle.std.specs.Prelude.{◌≡◌};
+ghost use Rattle.base_buffer.specs.Answer.{Wrote, refusal_of, unless};
 ghost use Rattle.write_directive.specs.Directive.{tail, directive_reasons, directive_line};
-ghost use Rattle.write_directive.specs.Inner.Short.{Short};
 
 use super::judge::Faults;
-use base_buffer::Written;
+use base_buffer::WriteError;
+use base_refusals::Refusal;
+use base_sink::{Count, Page, Sink};
 use read_version::GffVersion;
 
 // The value, beside the two texts that it may use, `first` and `second`.
@@ -24,16 +23,16 @@ pub enum Value {
     Build,
 }
 
-fn refusal(key: &[u8], value: Value, first: &[u8], second: &[u8]) -> u32
-    ensures { result ≡ refusal_of (directive_reasons key.now value first.now second.now) }
+fn refusal(key: &[u8], value: Value, first: &[u8], second: &[u8]) -> Result<(), Refusal>
+    ensures { result ≡ unless (refusal_of (directive_reasons key.now value first.now second.now)) tt }
 {
     match value {
-        Value::None => super::judge::refusal(key, super::judge::no_faults()),
+        Value::None => super::judge::refusal(key, Faults::default()),
         Value::Text => {
             let faults = Faults {
                 long: write_texts::is_long(first),
                 unfit: write_texts::breaks(first),
-                ..super::judge::no_faults()
+                ..Faults::default()
             };
             super::judge::refusal(key, faults)
         }
@@ -45,42 +44,25 @@ fn refusal(key: &[u8], value: Value, first: &[u8], second: &[u8]) -> u32
     }
 }
 
-// The length of the value and the space before it.
-fn tail_len(value: Value, first: &[u8], second: &[u8]) -> usize
-    requires { Short value first.now second.now }
-    ensures { (result ≡ length (tail value first.now second.now)) × (result ≤ 2 + 2 * most_text) }
+// The value and the space before it.
+fn put_tail<S: Sink>(value: Value, first: &[u8], second: &[u8], sink: &mut S)
+    ensures { S.took (tail value first.now second.now) sink.old sink.new }
 {
     match value {
-        Value::None => 0,
-        Value::Text => 1 + first.len(),
-        Value::Version(version) => super::gff_version::version_len(version),
-        Value::Region(start, end) => super::sequence_region::region_len(first, start, end),
-        Value::Build => super::genome_build::build_len(first, second),
+        Value::None => {}
+        Value::Text => super::pieces::put_word(first, sink),
+        Value::Version(version) => super::gff_version::put_version(version, sink),
+        Value::Region(start, end) => super::sequence_region::put_region(first, start, end, sink),
+        Value::Build => super::genome_build::put_build(first, second, sink),
     }
 }
 
-fn lay_tail(value: Value, first: &[u8], second: &[u8], out: &mut [u8], at: usize) -> usize
-    ensures { Lays (tail value first.now second.now) out.old at out.new result }
+fn put_directive<S: Sink>(key: &[u8], value: Value, first: &[u8], second: &[u8], sink: &mut S)
+    ensures { S.took (directive_line key.now value first.now second.now) sink.old sink.new }
 {
-    match value {
-        Value::None => base_numbers::least(at, out.len()),
-        Value::Text => super::pieces::lay_word(first, out, at),
-        Value::Version(version) => super::gff_version::lay_version(version, out, at),
-        Value::Region(start, end) => {
-            super::sequence_region::lay_region(first, start, end, out, at)
-        }
-        Value::Build => super::genome_build::lay_build(first, second, out, at),
-    }
-}
-
-fn lay_directive(key: &[u8], value: Value, first: &[u8], second: &[u8], out: &mut [u8]) -> usize
-    ensures { Lays (directive_line key.now value first.now second.now)
-        out.old 0 out.new result }
-{
-    let one = base_buffer::lay_byte(b'#', out, 0);
-    let two = base_buffer::lay_byte(b'#', out, one);
-    let at = base_buffer::lay(key, out, two);
-    lay_tail(value, first, second, out, at)
+    sink.text(b"##");
+    sink.text(key);
+    put_tail(value, first, second, sink);
 }
 
 // Writes a directive at the start of a buffer. A text that the value does not use is not looked at. Refusals, in order: 24, the key or a
@@ -93,18 +75,17 @@ pub fn write_directive(
     first: &[u8],
     second: &[u8],
     out: &mut [u8],
-) -> Written
+) -> Result<usize, WriteError>
     ensures { Wrote (directive_reasons key.now value first.now second.now)
         (directive_line key.now value first.now second.now) out.old out.new result }
 {
-    let refused = refusal(key, value, first, second);
-    if refused != 0 {
-        return Written::Refused(refused);
-    }
-    let need = 2 + key.len() + tail_len(value, first, second);
+    refusal(key, value, first, second)?;
+    let mut count = Count { bytes: 0 };
+    put_directive(key, value, first, second, &mut count);
+    let need = count.bytes;
     if out.len() < need {
-        return Written::NoRoom(need);
+        return Err(WriteError::NoRoom(need));
     }
-    lay_directive(key, value, first, second, out);
-    Written::Done(need)
+    put_directive(key, value, first, second, &mut Page { out, at: 0 });
+    Ok(need)
 }

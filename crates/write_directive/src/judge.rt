@@ -1,10 +1,12 @@
 // The reasons to refuse a directive, in their order, before the first byte is written.
 ghost use Rattle.std.specs.Prelude.{◌≡◌};
-ghost use Rattle.base_buffer.specs.Answer.{refusal_of};
-ghost use Rattle.write_directive.specs.Judge.{no_faults, reasons};
+ghost use Rattle.base_buffer.specs.Answer.{refusal_of, unless};
+ghost use Rattle.write_directive.specs.Judge.{reasons};
+
+use base_refusals::Refusal;
 
 // What is wrong with a value.
-#[derive(Clone, Copy)]
+#[derive(Clone, Copy, Default)]
 pub(crate) struct Faults {
     // A text is too long.
     pub(crate) long: bool,
@@ -18,28 +20,27 @@ pub(crate) struct Faults {
     pub(crate) zero: bool,
 }
 
-pub(crate) fn no_faults() -> Faults
-    ensures { result ≡ no_faults }
+// The first reason to refuse a directive, by its key and the faults of its value.
+pub(crate) fn refusal(key: &[u8], faults: Faults) -> Result<(), Refusal>
+    ensures { result ≡ unless (refusal_of (reasons key.now faults)) tt }
 {
-    Faults {
-        long: false,
-        foreign: false,
-        unfit: false,
-        minorless: false,
-        zero: false,
+    if write_texts::is_long(key) | faults.long {
+        return Err(Refusal::TooLong);
     }
-}
-
-// The number of the first reason to refuse a directive, or 0, by its key and the faults of its value: from the last reason to the first,
-// as an earlier one goes before it.
-pub(crate) fn refusal(key: &[u8], faults: Faults) -> u32
-    ensures { result ≡ refusal_of (reasons key.now faults) }
-{
-    let spaced = write_texts::is_spaced(key);
-    let mut n = base_numbers::either(faults.zero, 2, 0);
-    n = base_numbers::either(faults.minorless, 9, n);
-    n = base_numbers::either(faults.unfit, 20, n);
-    n = base_numbers::either(spaced, 19, n);
-    n = base_numbers::either(faults.foreign, 21, n);
-    base_numbers::either(write_texts::is_long(key) | faults.long, 24, n)
+    if faults.foreign {
+        return Err(Refusal::ValueKey);
+    }
+    if write_texts::is_spaced(key) {
+        return Err(Refusal::Key);
+    }
+    if faults.unfit {
+        return Err(Refusal::Text);
+    }
+    if faults.minorless {
+        return Err(Refusal::Patch);
+    }
+    if faults.zero {
+        return Err(Refusal::Position);
+    }
+    Ok(())
 }

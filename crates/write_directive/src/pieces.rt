@@ -1,19 +1,20 @@
 // A value's words and numbers, each behind a space.
 ghost use Rattle.std.specs.Prelude.{◌∷◌};
 ghost use Rattle.base_lists.specs.Bytes.{sp};
-ghost use Rattle.base_buffer.specs.Laid.{Lays};
 ghost use Rattle.write_decimals.specs.Decimal.{decimal};
 
-pub(crate) fn lay_word(text: &[u8], out: &mut [u8], at: usize) -> usize
-    ensures { Lays (sp ∷ text.now) out.old at out.new result }
+use base_sink::Sink;
+
+pub(crate) fn put_word<S: Sink>(text: &[u8], sink: &mut S)
+    ensures { S.took (sp ∷ text.now) sink.old sink.new }
 {
-    let from = base_buffer::lay_byte(b' ', out, at);
-    base_buffer::lay(text, out, from)
+    sink.byte(b' ');
+    sink.text(text);
 }
 
-pub(crate) fn lay_number(n: u64, out: &mut [u8], at: usize) -> usize
-    ensures { Lays (sp ∷ decimal n) out.old at out.new result }
+pub(crate) fn put_number<S: Sink>(n: u64, sink: &mut S)
+    ensures { S.took (sp ∷ decimal n) sink.old sink.new }
 {
-    let from = base_buffer::lay_byte(b' ', out, at);
-    write_decimals::lay_decimal(n, out, from)
+    sink.byte(b' ');
+    write_decimals::put_decimal(n, sink);
 }

@@ -1,14 +1,14 @@
 // The value of `sequence-region`: name, start, end, with a space between them.
-ghost use Rattle.std.specs.Prelude.{◌≡◌, ◌+◌, ◌≤◌, length};
-ghost use Rattle.base_lists.specs.Limits.{most_text};
-ghost use Rattle.base_buffer.specs.Laid.{Lays};
-ghost use Rattle.base_buffer.specs.Answer.{refusal_of};
+ghost use Rattle.std.specs.Prelude.{◌≡◌};
+ghost use Rattle.base_buffer.specs.Answer.{refusal_of, unless};
 ghost use Rattle.write_directive.specs.Region.{region_reasons, region_tail};
 
 use super::judge::Faults;
+use base_refusals::Refusal;
+use base_sink::Sink;
 
-pub(crate) fn region_refusal(key: &[u8], name: &[u8], start: u64, end: u64) -> u32
-    ensures { result ≡ refusal_of (region_reasons key.now name.now start end) }
+pub(crate) fn region_refusal(key: &[u8], name: &[u8], start: u64, end: u64) -> Result<(), Refusal>
+    ensures { result ≡ unless (refusal_of (region_reasons key.now name.now start end)) tt }
 {
     let own = base_words::is_same(key, b"sequence-region");
     let faults = Faults {
@@ -16,23 +16,16 @@ pub(crate) fn region_refusal(key: &[u8], name: &[u8], start: u64, end: u64) -> u
         foreign: !own,
         unfit: write_texts::is_unfit(name),
         zero: (start == 0) | (end == 0),
-        ..super::judge::no_faults()
+        ..Faults::default()
     };
     super::judge::refusal(key, faults)
 }
 
-// The length of the value and the space before it.
-pub(crate) fn region_len(name: &[u8], start: u64, end: u64) -> usize
-    requires { length name.now ≤ most_text }
-    ensures { (result ≡ length (region_tail name.now start end)) × (result ≤ 43 + most_text) }
+// The value and the space before it.
+pub(crate) fn put_region<S: Sink>(name: &[u8], start: u64, end: u64, sink: &mut S)
+    ensures { S.took (region_tail name.now start end) sink.old sink.new }
 {
-    3 + name.len() + write_decimals::decimal_len(start) + write_decimals::decimal_len(end)
-}
-
-pub(crate) fn lay_region(name: &[u8], start: u64, end: u64, out: &mut [u8], at: usize) -> usize
-    ensures { Lays (region_tail name.now start end) out.old at out.new result }
-{
-    let after_name = super::pieces::lay_word(name, out, at);
-    let after_start = super::pieces::lay_number(start, out, after_name);
-    super::pieces::lay_number(end, out, after_start)
+    super::pieces::put_word(name, sink);
+    super::pieces::put_number(start, sink);
+    super::pieces::put_number(end, sink);
 }

@@ -2,7 +2,7 @@
 use Prim.Native.Nat.{ℕ, ◌+◌, ◌*◌, ◌^◌, ◌≤◌, ◌<◌}
 use native.Mathlib.Omega.{arith}
 use mathlib.Core.Path.{◌≡◌, ap}
-use mathlib.Core.Option.{some}
+use Rattle.std.specs.Prelude.{Some}
 use mathlib.Core.List.{List, [], ◌∷◌, map, flat_map}
 use lib.ListN.{length, length-append}
 use Rattle.base_lists.specs.Bytes.{Bytes, comma}
@@ -18,9 +18,9 @@ use Rattle.read_attributes.specs.Written.{written, column}
 use Rattle.sheet_form.specs.Sheet.{Sheet, section_of, attribute_of, sheet_read}
 use Rattle.sheet_form.proofs.LengthLaws.{length_section, length_attribute, length_sheet}
 use Rattle.sheet_form.proofs.SheetLaws.{of_read}
-use Rattle.write_measure.specs.Inner.Led.{led}
+use Rattle.write_line.specs.Inner.Led.{led}
 use Rattle.write_measure.specs.Record.{score_column, record_line}
-use Rattle.write_measure.proofs.LedLaws.{led_prefixed, led_column}
+use Rattle.write_line.proofs.LedLaws.{led_prefixed, led_column}
 use Rattle.write_measure.proofs.LineLaws.{length_line}
 
 -- texts with a byte before each, by what each of them is on the sheet
@@ -60,7 +60,7 @@ score_few (x ∷ s) = omega arith
 
 -- the line of a sheet
 pub line_few : (sheet : List ℕ) (start end strand phase : ℕ) (s : Sheet) → Bytes sheet → start < 2 ^ 64 → end < 2 ^ 64
-    → sheet_read sheet ≡ some s → length (record_line sheet start end strand phase) ≤ 3 * length sheet
+    → sheet_read sheet ≡ Some s → length (record_line sheet start end strand phase) ≤ 3 * length sheet
 unfolding record_line
 line_few sheet start end strand phase s bytes h k e =
     let few : (set : Set) (t : List ℕ) → length (encoded (escapes set) t) ≤ 3 * length t = λ set t. (coder_of set).few t in

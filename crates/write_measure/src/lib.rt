@@ -6,15 +6,7 @@
 // Assumes nothing.
 #![tactic(auto)]
 
-mod length;
 mod measuring;
 mod reasons;
 
-pub use measuring::{Measured, measure, refusal};
-
-// How far measuring or writing came in the sheet, and in the line. Past the sheet's end: it is not of the form there.
-#[derive(Clone, Copy)]
-pub struct Spot {
-    pub from: usize,
-    pub to: usize,
-}
+pub use measuring::{measure, refusal};

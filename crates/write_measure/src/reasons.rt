@@ -1,14 +1,12 @@
 // Why a record is refused.
-ghost use Rattle.std.specs.Prelude.{◌≡◌, drop};
-ghost use Rattle.std.proofs.Math.Option.{some};
+ghost use Rattle.std.specs.Prelude.{◌≡◌, Some, IsSomeAnd};
 ghost use Rattle.base_scan.specs.Part.{text_at};
-ghost use Rattle.base_buffer.specs.Answer.{refusal_of};
-ghost use Rattle.sheet_form.specs.Sheet.{Sheet, section, sheet_read};
-ghost use Rattle.sheet_form.specs.Inner.Past.{Passes};
+ghost use Rattle.base_buffer.specs.Answer.{refusal_of, unless};
+ghost use Rattle.sheet_form.specs.Sheet.{Sheet, sheet_read};
 ghost use Rattle.write_measure.specs.Record.{bad, faults, fault_reasons};
 
+use base_refusals::Refusal;
 use base_scan::Place;
-use sheet_form::SectionRead;
 
 // What is wrong with a record.
 #[derive(Clone, Copy)]
@@ -25,18 +23,16 @@ struct Faults {
     cds: bool,
 }
 
-// Where the section at a cursor stands; past the sheet's end where there is none.
-fn section(sheet: &[u8], at: usize) -> Place
-    ensures { Passes (λ t. t ≡ text_at result sheet.now)
-        sheet.now result.end (section (drop at sheet.now)) }
+// Where a sheet has its type and its score. None where it breaks off before.
+fn type_and_score(sheet: &[u8]) -> Option<(Place, Place)>
+    ensures { (s : Sheet) → sheet_read sheet.now ≡ Some s →
+        IsSomeAnd result (λ p. (text_at p.0 sheet.now ≡ s.type) × (text_at p.1 sheet.now ≡ s.score)) }
 {
-    match sheet_form::section_at(sheet, at) {
-        SectionRead::At(place) => place,
-        SectionRead::Malformed => Place {
-            start: 0,
-            end: sheet.len() + 1,
-        },
-    }
+    let name = sheet_form::section_at(sheet, 0)?;
+    let source = sheet_form::section_at(sheet, name.end)?;
+    let ty = sheet_form::section_at(sheet, source.end)?;
+    let score = sheet_form::section_at(sheet, ty.end)?;
+    Some((ty, score))
 }
 
 // A score that is neither missing nor a token.
@@ -46,26 +42,42 @@ fn is_bad(score: &[u8]) -> bool
     !((score.len() == 0) | read_score::is_score(score))
 }
 
-// The first reason that a record's faults give, or 0: from the last to the first.
-fn first_fault(faults: Faults) -> u32
-    ensures { result ≡ refusal_of (fault_reasons faults) }
+// The first reason that a record's faults give.
+fn first_fault(faults: Faults) -> Result<(), Refusal>
+    ensures { result ≡ unless (refusal_of (fault_reasons faults)) tt }
 {
-    let mut n = base_numbers::either(faults.cds, 18, 0);
-    n = base_numbers::either(faults.phase, 4, n);
-    n = base_numbers::either(faults.strand, 3, n);
-    n = base_numbers::either(faults.score, 17, n);
-    base_numbers::either(faults.position, 2, n)
+    if faults.position {
+        return Err(Refusal::Position);
+    }
+    if faults.score {
+        return Err(Refusal::Score);
+    }
+    if faults.strand {
+        return Err(Refusal::Strand);
+    }
+    if faults.phase {
+        return Err(Refusal::Phase);
+    }
+    if faults.cds {
+        return Err(Refusal::PhaseMissing);
+    }
+    Ok(())
 }
 
-// The first reason that a sheet and its numbers give, or 0.
-pub(crate) fn field_refusal(sheet: &[u8], start: u64, end: u64, strand: u32, phase: u32) -> u32
-    ensures { (s : Sheet) → sheet_read sheet.now ≡ some s →
-        result ≡ refusal_of (fault_reasons (faults (some s) start end strand phase)) }
+// The first reason that a sheet and its numbers give.
+pub(crate) fn field_refusal(
+    sheet: &[u8],
+    start: u64,
+    end: u64,
+    strand: u32,
+    phase: u32,
+) -> Result<(), Refusal>
+    ensures { (s : Sheet) → sheet_read sheet.now ≡ Some s →
+        result ≡ unless (refusal_of (fault_reasons (faults (Some s) start end strand phase))) tt }
 {
-    let name = section(sheet, 0);
-    let source = section(sheet, name.end);
-    let ty = section(sheet, source.end);
-    let score = section(sheet, ty.end);
+    let Some((ty, score)) = type_and_score(sheet) else {
+        return Err(Refusal::Sheet);
+    };
     let cds = base_words::is_same(base_scan::text(sheet, ty), b"CDS");
     first_fault(Faults {
         position: (start == 0) | (end == 0),

@@ -8,7 +8,6 @@
 // sheet is read a fixed number of times. Assumes nothing.
 #![tactic(auto)]
 
-mod lay;
 mod write;
 
 pub use write::write_record;

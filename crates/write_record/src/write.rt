@@ -3,8 +3,8 @@ ghost use Rattle.std.specs.Prelude.{◌*◌, ◌≤◌, length};
 ghost use Rattle.base_buffer.specs.Answer.{Wrote};
 ghost use Rattle.write_measure.specs.Record.{record_reasons, record_line};
 
-use base_buffer::Written;
-use write_measure::Measured;
+use base_buffer::WriteError;
+use base_sink::Page;
 
 // Writes a record where three bytes for each of the sheet's fit, as most callers have them: the line fits, too, so nothing is measured, and
 // the place behind it is its length.
@@ -15,16 +15,15 @@ fn write_at_once(
     strand: u32,
     phase: u32,
     out: &mut [u8],
-) -> Written
+) -> Result<usize, WriteError>
     requires { 3 * length sheet.now ≤ length out.old }
     ensures { Wrote (record_reasons sheet.now start end strand phase)
         (record_line sheet.now start end strand phase) out.old out.new result }
 {
-    let refused = write_measure::refusal(sheet, start, end, strand, phase);
-    if refused != 0 {
-        return Written::Refused(refused);
-    }
-    Written::Done(super::lay::lay_line(sheet, start, end, strand, phase, out))
+    write_measure::refusal(sheet, start, end, strand, phase)?;
+    let mut page = Page { out, at: 0 };
+    write_line::put_line(sheet, start, end, strand, phase, &mut page);
+    Ok(page.at)
 }
 
 // Writes a record at the start of a buffer: the sheet's texts, each escaped by its column's set, and the numbers: strand 0 to 3 for `.`
@@ -38,21 +37,18 @@ pub fn write_record(
     strand: u32,
     phase: u32,
     out: &mut [u8],
-) -> Written
+) -> Result<usize, WriteError>
     ensures { Wrote (record_reasons sheet.now start end strand phase)
         (record_line sheet.now start end strand phase) out.old out.new result }
 {
     if sheet.len() <= out.len() / 3 {
         return write_at_once(sheet, start, end, strand, phase, out);
     }
-    match write_measure::measure(sheet, start, end, strand, phase) {
-        Measured::Is(need) => {
-            if out.len() < need {
-                return Written::NoRoom(need);
-            }
-            super::lay::lay_line(sheet, start, end, strand, phase, out);
-            Written::Done(need)
-        }
-        Measured::Refused(n) => Written::Refused(n),
+    let need = write_measure::measure(sheet, start, end, strand, phase)?;
+    if out.len() < need {
+        return Err(WriteError::NoRoom(need));
     }
+    let page = &mut Page { out, at: 0 };
+    write_line::put_line(sheet, start, end, strand, phase, page);
+    Ok(need)
 }

@@ -1,14 +1,10 @@
--- `find_few`: no byte before i is b, so the first place is the same from i on. Assumes nothing.
-use mathlib.Core.Path.{sym, ◌∙◌}
-use borrow.Author.Tests.{eq-eqb, ne_eqb}
-use Rattle.base_scan.proofs.FindLaws.{seek_here, seek_next, seek_end}
+-- `find_few`: the first place of what stands from the cursor on. Assumes nothing.
+use Rattle.std.proofs.Common.{sym, ◌∙◌}
+use Rattle.base_scan.proofs.FindLaws.{seek_some, seek_none}
 use Rattle.base_scan.proofs.find_few.Goals as goal
 
-pub returns-then-s-i : goal.returns-then-s-i
-returns-then-s-i c = sym (c.loop-i.invariant ∙ seek_here _ _ _ c.loop-i-test.true (eq-eqb _ _ c.if-s-i.true))
+pub returns-in-Some : goal.returns-in-Some
+returns-in-Some c = seek_some _ _ _ _ (sym c.first_of.ensures ∙ c.in-Some.is)
 
-pub loop-i-preserved : goal.loop-i-preserved
-loop-i-preserved c = c.loop-i.invariant ∙ seek_next _ _ _ c.loop-i-test.true (ne_eqb _ _ c.if-s-i.false)
-
-pub returns : goal.returns
-returns c = sym (c.loop-i.invariant ∙ seek_end _ _ _ c.loop-i-test.false)
+pub returns-in-None : goal.returns-in-None
+returns-in-None c = seek_none _ _ _ (sym c.first_of.ensures ∙ c.in-None.is)

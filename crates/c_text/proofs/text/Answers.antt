@@ -1,6 +1,5 @@
 -- `text` writes as the reader of the column does. Assumes nothing.
 use borrow.Author.Tests.{ne_eqb}
-use native.Mathlib.Omega.{arith}
 use Rattle.base_buffer.proofs.AnswerLaws.{wrote_refused}
 use Rattle.c_text.proofs.text.Goals as goal
 
@@ -14,4 +13,4 @@ pub returns-in-3 : goal.returns-in-3
 returns-in-3 c = rw c.in-3.is c.ty.ensures
 
 pub returns-in_default : goal.returns-in_default
-returns-in_default c = let r = c.in_default.in_default-own.rest in wrote_refused (rw (ne_eqb _ 1 c.in_default.in_default-own.rest.0.0.1, ne_eqb _ 2 c.in_default.in_default-own.rest.0.1, ne_eqb _ 3 c.in_default.in_default-own.rest.1)) (omega arith)
+returns-in_default c = let r = c.in_default.in_default-own.rest in wrote_refused (rw (ne_eqb _ 1 c.in_default.in_default-own.rest.0.0.1, ne_eqb _ 2 c.in_default.in_default-own.rest.0.1, ne_eqb _ 3 c.in_default.in_default-own.rest.1))

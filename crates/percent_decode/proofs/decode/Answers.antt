@@ -9,10 +9,10 @@ pub returns-then-s-out : goal.returns-then-s-out
 returns-then-s-out c =
     let l = length_decoded c.args.s.now in
     let k = c.lay_decoded.ensures in
-    wrote_done refl refl (omega arith) (omega arith) k
+    wrote_done refl (omega arith) (omega arith) k
 
 pub returns-then-out-need : goal.returns-then-out-need
-returns-then-out-need c = wrote_no_room refl refl c.decoded_len-need.ensures.0 c.if-out-need.true
+returns-then-out-need c = wrote_no_room refl c.decoded_len-need.ensures.0 c.if-out-need.true
 
 pub returns : goal.returns
-returns c = wrote_done refl refl c.decoded_len-need.ensures.0 c.if-out-need.false c.lay_decoded-2.ensures
+returns c = wrote_done refl c.decoded_len-need.ensures.0 c.if-out-need.false c.lay_decoded-2.ensures

@@ -1,4 +1,4 @@
--- `count_escaped`: what is counted, and what is to count from i on, are the whole. Assumes nothing.
+-- `count_escaped`: what is counted, and what is to count from the next byte on, are the whole. Assumes nothing.
 use mathlib.Core.Path.{◌≡◌, refl, sym, ◌∙◌}
 use mathlib.Core.Bool.{Bool, true, false, cond}
 use mir.Val.{bool_byte}
@@ -15,8 +15,8 @@ as_number : (t : Bool) → (bool_byte t ≡ cond t 1 0) × (bool_byte t ≤ 1)
 as_number true = (refl, omega arith)
 as_number false = (refl, omega arith)
 
-pub loop-i-init : goal.loop-i-init
-loop-i-init c = (omega arith, omega arith, omega arith)
+pub loop-b-init : goal.loop-b-init
+loop-b-init c = (omega arith, omega arith, omega arith)
 
 pub overflow_cast-n : goal.overflow_cast-n
 overflow_cast-n c = omega (arith, (as_number c.escaped_by.result).1)
@@ -24,20 +24,20 @@ overflow_cast-n c = omega (arith, (as_number c.escaped_by.result).1)
 pub overflow_add-n : goal.overflow_add-n
 overflow_add-n c = omega (arith, (as_number c.escaped_by.result).1)
 
-pub loop-i-preserved : goal.loop-i-preserved
-loop-i-preserved c =
-    let l = c.loop-i in
+pub loop-b-preserved : goal.loop-b-preserved
+loop-b-preserved c =
+    let l = c.loop-b in
     let a = c.args in
-    let b = get_or a.s.now c.loop-i.i 0 in
-    let rule = by_classes c.classes-table.ensures a.set b (omega (arith, c.type_inv.s c.loop-i.i)) in
+    let b = get_or a.s.now c.loop-b.b-index 0 in
+    let rule = by_classes c.classes-table.ensures a.set b (omega (arith, c.type_inv.s c.loop-b.b-index)) in
     let told : c.escaped_by.result ≡ escapes a.set b = c.escaped_by.ensures ∙ rule in
     let n = as_number c.escaped_by.result in
     let e : cond (escapes a.set b) 1 0 ≡ bool_byte c.escaped_by.result = rw (← told) (sym n.0) in
-    let more = count_next (escapes a.set) a.s.now c.loop-i.i c.loop-i-test.true in
+    let more = count_next (escapes a.set) a.s.now c.loop-b.b-index c.loop-b-test.true in
     (omega arith, omega (arith, n.1), omega arith)
 
 pub returns : goal.returns
 returns c =
-    let l = c.loop-i in
+    let l = c.loop-b in
     let a = c.args in
-    let none = count_end (escapes a.set) a.s.now c.loop-i.i c.loop-i-test.false in (omega arith, omega arith)
+    let none = count_end (escapes a.set) a.s.now c.loop-b.b-index c.loop-b-test.false in (omega arith, omega arith)

@@ -1,5 +1,8 @@
--- `lay_encoded`: the text itself, where it stays as it is, or its pieces. Assumes nothing.
+-- `lay_encoded`: put into a page over the buffer. Assumes nothing.
+use native.Mathlib.Omega.{arith}
+use borrow.Author.Rules.{rules}
+use Rattle.base_sink.proofs.PageLaws.{page_lays_from}
 use Rattle.percent_encode.proofs.lay_encoded.Goals as goal
 
-pub returns-then-stays : goal.returns-then-stays
-returns-then-stays c = rw (c.stays.ensures c.if-stays.true) c.lay.ensures
+pub returns : goal.returns
+returns c = page_lays_from c.args.at (omega (arith, c.min.ensures)) c.put_encoded.ensures (search rules)

@@ -5,5 +5,5 @@ use Rattle.program_rewrite.proofs.rewrite.Goals as goal
 
 pub loop-place-smaller : goal.loop-place-smaller
 loop-place-smaller g c =
-    let h = meets _ _ c.next_line.ensures c.in-Line.is in
+    let h = meets _ _ c.next_line.ensures c.in-Some.is in
     omega arith

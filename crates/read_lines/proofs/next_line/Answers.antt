@@ -3,7 +3,6 @@ use native.Mathlib.Omega.{arith}
 use lib.ListN.{length}
 use borrow.Author.Tests.{eq-eqb, ne_eqb, le-leb, lt-leb}
 use Rattle.read_lines.specs.Step.{next_line}
-use Rattle.read_lines.proofs.BlankLaws.{past_feed}
 use Rattle.read_lines.proofs.next_line.Goals as goal
 
 pub returns-then-text-at : goal.returns-then-text-at
@@ -19,11 +18,6 @@ returns-then-feed-text c =
       ← c.find-feed.ensures.first,
       eq-eqb c.find-feed.result (length c.args.text.now) (omega (arith, c.if-feed-text.true)),
     )
-
-pub chomp-end-requires : goal.chomp-end-requires
-chomp-end-requires c =
-    let h = past_feed c.args.text.now _ c.past_blank-at.ensures c.find-feed.ensures.first c.if-text-at.false in
-    (omega arith, c.find-feed.ensures.within)
 
 pub returns : goal.returns
 unfolding next_line

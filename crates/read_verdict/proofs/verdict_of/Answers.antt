@@ -17,8 +17,8 @@ returns-in-Directive c = of_kind c.args.line.now (sym c.kind_of.ensures ∙ c.in
 pub returns-in-Comment : goal.returns-in-Comment
 returns-in-Comment c = of_kind c.args.line.now (sym c.kind_of.ensures ∙ c.in-Comment.is)
 
-pub returns-in-Is : goal.returns-in-Is
-returns-in-Is c = of_numbers c.args.line.now (is_record (goal.at.returns-in-Is c).In-Record) (sym c.judge_numbers.ensures ∙ c.in-Is.is)
+pub returns-in-Ok : goal.returns-in-Ok
+returns-in-Ok c = of_numbers c.args.line.now (is_record (goal.at.returns-in-Ok c).In-Record) (sym c.judge_numbers.ensures ∙ c.in-Ok.is)
 
-pub returns-in-Refused : goal.returns-in-Refused
-returns-in-Refused c = of_numbers c.args.line.now (is_record (goal.at.returns-in-Refused c).In-Record) (sym c.judge_numbers.ensures ∙ c.in-Refused.is)
+pub returns-in-Err : goal.returns-in-Err
+returns-in-Err c = of_numbers c.args.line.now (is_record (goal.at.returns-in-Err c).In-Record) (sym c.judge_numbers.ensures ∙ c.in-Err.is)

@@ -1,28 +1,16 @@
 -- `is_hashed` answers `hashed`: by the first byte, if there is one. Assumes nothing.
-use Prim.Native.Nat.{ℕ}
-use native.Mathlib.Omega.{arith}
-use mathlib.Core.Path.{◌≡◌, refl}
-use mathlib.Core.Logic.{◌≢◌}
-use mathlib.Core.Bool.{false}
-use mathlib.Core.List.{List, [], ◌∷◌}
-use lib.Dec.{eqb}
-use lib.ListN.{length, get_or}
+use Rattle.std.specs.Prelude.{◌≡◌, ℕ, List, [], ◌∷◌, Some, eqb}
+use Rattle.std.specs.Option.{option_eq}
+use Rattle.std.specs.List.{slice_get}
+use mathlib.Core.Path.{refl, ◌∙◌}
 use Rattle.base_lists.specs.Bytes.{hash}
 use Rattle.write_comment.specs.Comment.{hashed}
 use Rattle.write_comment.proofs.is_hashed.Goals as goal
 
-none : (s : List ℕ) → length s ≡ 0 → false ≡ hashed s
+by_first : (s : List ℕ) → option_eq eqb (slice_get s 0) (Some hash) ≡ hashed s
 unfolding hashed
-none [] e = refl
-none (x ∷ s) e = absurd (omega arith)
-
-some : (s : List ℕ) → length s ≢ 0 → eqb (get_or s 0 0) hash ≡ hashed s
-unfolding hashed
-some [] h = absurd (h refl)
-some (x ∷ s) h = refl
-
-pub returns-then-text-eq0 : goal.returns-then-text-eq0
-returns-then-text-eq0 c = none _ c.if-text-eq0.true
+by_first [] = refl
+by_first (x ∷ s) = refl
 
 pub returns : goal.returns
-returns c = some _ c.if-text-eq0.false
+returns c = c.eq.ensures ∙ rw (c.copied.ensures, c.first.ensures.value) (by_first _)

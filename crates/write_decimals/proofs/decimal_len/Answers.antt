@@ -1,19 +1,12 @@
--- `decimal_len`: the digits of v and those that were counted are one more than those of n. Assumes nothing.
-use mathlib.Core.Path.{ap}
-use Prim.Native.Nat.{◌/◌}
-use native.Mathlib.Omega.{arith}
-use lib.ListN.{length}
-use Rattle.write_decimals.proofs.DecimalLaws.{decimal_one, decimal_some, length_more, length_decimal}
+-- `decimal_len`: one digit more than the power of ten below the number has zeros. Assumes nothing.
+use Rattle.std.proofs.Common.{ap, length, arith}
+use Rattle.write_decimals.proofs.DecimalLaws.{length_power, decimal_one}
 use Rattle.write_decimals.proofs.decimal_len.Goals as goal
 
-pub loop-v-preserved : goal.loop-v-preserved
-loop-v-preserved c =
-    omega (
-      arith,
-      length_more c.loop-v.v c.loop-v-test.true,
-      length_decimal c.args.n (omega arith),
-      decimal_some (c.loop-v.v / 10),
-    )
+pub returns-in-Some : goal.returns-in-Some
+returns-in-Some c =
+    let e = c.in-Some.ensures in (omega (arith, length_power c.in-Some.k c.args.n e.power_le e.next_power_gt), omega (arith, e.bound))
 
-pub returns : goal.returns
-returns c = omega (arith, ap length (decimal_one c.loop-v.v c.loop-v-test.false))
+pub returns-in-None : goal.returns-in-None
+returns-in-None c =
+    let zero = c.in-None.ensures.none in (omega (arith, zero, ap length (decimal_one c.args.n (omega (arith, zero)))), omega arith)

@@ -4,7 +4,7 @@ use mathlib.Core.List.{List}
 use Prim.Native.Nat.{ℕ, ◌≤◌}
 use native.Mathlib.Omega.{arith}
 use lib.ListN.{length, take}
-use lib.Seq.{take_all, take-length, length-take-le}
+use lib.Seq.{take_all, take-length}
 use Rattle.base_scan.specs.Mask.{mask}
 use Rattle.base_scan.proofs.mask.marks.Goals as goal
 
@@ -20,12 +20,6 @@ slice_bounds-marks_many-end c = sym (ap length (take-length c.args.given.now))
 
 pub marks_many-requires : goal.marks_many-requires
 marks_many-requires c = let n = ap length (take-length c.args.given.now) in (omega arith, omega arith)
-
-pub slice_bounds-marks_full-end : goal.slice_bounds-marks_full-end
-slice_bounds-marks_full-end c = sym (length-take-le 64 c.args.given.now (omega arith))
-
-pub marks_full-requires : goal.marks_full-requires
-marks_full-requires c = length-take-le 64 c.args.given.now (omega arith)
 
 pub returns-then-n-lt64 : goal.returns-then-n-lt64
 returns-then-n-lt64 c =

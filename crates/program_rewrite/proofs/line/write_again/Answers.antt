@@ -3,19 +3,13 @@ use mathlib.Core.Path.{◌∙◌}
 use Rattle.program_rewrite.proofs.RewriteLaws.{writes}
 use Rattle.program_rewrite.proofs.line.write_again.Goals as goal
 
-pub returns-in-Done : goal.returns-in-Done
-returns-in-Done c =
+pub returns-in-Ok : goal.returns-in-Ok
+returns-in-Ok c =
     writes c.args.sheet.now c.args.numbers c.strand_number-strand.ensures c.phase_number-phase.ensures
-    c.write_record.ensures c.requires c.in-Done.is
+    c.write_record.ensures c.requires c.in-Ok.is
 
-pub returns-in-Refused : goal.returns-in-Refused
-returns-in-Refused c =
+pub returns-in-Err : goal.returns-in-Err
+returns-in-Err c =
     c.refuse.ensures
     ∙ writes c.args.sheet.now c.args.numbers c.strand_number-strand.ensures c.phase_number-phase.ensures
-    c.write_record.ensures c.requires c.in-Refused.is
-
-pub returns-in-NoRoom : goal.returns-in-NoRoom
-returns-in-NoRoom c =
-    c.refuse-in-NoRoom.ensures
-    ∙ writes c.args.sheet.now c.args.numbers c.strand_number-strand.ensures c.phase_number-phase.ensures
-    c.write_record.ensures c.requires c.in-NoRoom.is
+    c.write_record.ensures c.requires c.in-Err.is

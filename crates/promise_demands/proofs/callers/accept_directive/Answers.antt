@@ -2,7 +2,7 @@
 use native.Mathlib.Omega.{arith}
 use Rattle.promise_demands.specs.Item.{Item, directive, line_of, reasons_of, Typed}
 use Rattle.base_lists.proofs.EveryLaws.{all_bytes}
-use Rattle.promise_demands.proofs.TypedLaws.{sized}
+use Rattle.write_directive.proofs.TypedLaws.{sized}
 use Rattle.promise_demands.proofs.Demands.{demand3}
 use Rattle.promise_demands.proofs.callers.accept_directive.Goals as goal
 

@@ -1,5 +1,6 @@
 -- `is_empty` answers `is_empty`. Assumes nothing.
 use native.Mathlib.Omega.{arith}
+use Rattle.std.proofs.Common.{rules}
 use mathlib.Core.Path.{◌≡◌, refl, ◌∙◌}
 use mathlib.Core.Bool.{true}
 use mathlib.Core.List.{List, [], ◌∷◌}
@@ -19,8 +20,8 @@ unfolding is_empty
 some [] h = absurd (h refl)
 some (x ∷ s) h = refl
 
-pub returns-then-column-eq0 : goal.returns-then-column-eq0
-returns-then-column-eq0 c = none c.args.column.now c.if-column-eq0.true
+pub returns-then-is_empty : goal.returns-then-is_empty
+returns-then-is_empty c = c.if-is_empty.true ∙ none c.args.column.now (search rules)
 
-pub returns : goal.returns
-returns c = c.is_dot.ensures ∙ some c.args.column.now c.if-column-eq0.false
+pub returns-else-is_empty : goal.returns-else-is_empty
+returns-else-is_empty c = c.is_dot.ensures ∙ some c.args.column.now (λ e. search rules)

@@ -7,14 +7,15 @@ use Rattle.base_scan.specs.declared.Two.{Two}
 use Rattle.base_scan.specs.Find.{found}
 use Rattle.read_attributes.specs.Step.{next_field}
 use Rattle.read_attributes.proofs.field.next_field.Goals as goal
+use Rattle.read_attributes.proofs.field.next_field.Goals.{then-is_dot-via-then-is_dot, then-is_dot-via-else-is_dot+then-column-at}
 
 pub returns-then-is_dot : goal.returns-then-is_dot
 unfolding next_field
-returns-then-is_dot c = rw (← c.is_dot.ensures, c.if-is_dot.true)
-
-pub returns-then-column-at : goal.returns-then-column-at
-unfolding next_field
-returns-then-column-at c = rw (← c.is_dot.ensures, c.if-is_dot.false, le-leb _ _ c.if-column-at.true)
+returns-then-is_dot c =
+    elim c.then-is_dot.branch [
+      | then-is_dot-via-then-is_dot w ↦ rw (← c.is_dot.ensures, w.if-is_dot.true)
+      | then-is_dot-via-else-is_dot+then-column-at w ↦ rw (← c.is_dot.ensures, w.if-is_dot.false, le-leb _ _ w.if-column-at.true)
+    ]
 
 pub returns-then-equals-column : goal.returns-then-equals-column
 unfolding next_field

@@ -1,11 +1,21 @@
--- `own` compares with the line's bounds, where it has them. Assumes nothing.
-use Rattle.read_columns.specs.Columns.{is_own}
+-- `own`: the index is these bounds, which is to say that none of the eight ends differs. Assumes nothing.
+use Rattle.std.specs.Prelude.{◌≡◌, Result, Ok, Err}
+use Rattle.std.specs.Result.{result_eq}
+use mathlib.Core.Path.{◌∙◌, refl}
+use mathlib.Core.Bool.{Bool, and-true}
+use Rattle.base_refusals.specs.declared.Refusal.{Refusal}
+use Rattle.base_words.specs.Same.{same}
+use Rattle.read_columns.specs.declared.bounds.Bounds.{Bounds}
+use Rattle.read_columns.specs.contracts.bounds.BoundsPartialEq.TheImpl.{eq-value}
+use Rattle.read_columns.specs.Columns.{is_own, matches}
 use Rattle.read_columns.proofs.bounds.own.Goals as goal
 
-pub returns-in-At : goal.returns-in-At
-unfolding is_own
-returns-in-At c = rw (c.same.ensures, ← c.index.ensures, c.in-At.is)
+-- a test of equality tells whether none of the eight ends differs, whatever it says of refusals
+matched : (other : Refusal → Refusal → Bool) (r : Result Bounds Refusal) (b : Bounds) → result_eq eq-value.it other r (Ok b) ≡ matches r b
+unfolding same
+matched other (Ok a) b = simp and-true
+matched other (Err e) b = refl
 
-pub returns-in-Refused : goal.returns-in-Refused
+pub returns : goal.returns
 unfolding is_own
-returns-in-Refused c = rw (← c.index.ensures, c.in-Refused.is)
+returns c = c.eq.ensures ∙ rw (← c.index.ensures) (matched _ c.index.result c.args.bounds)

@@ -17,10 +17,10 @@ counted : (c : After-decoded_len)
     → let s = c.args.value.now in
     length (counted_of section_of
     (values s)) ≡ c.loop-place.n + (4 + c.decoded_len.result) + length (flat_map section_of
-    (coming s c.in-Is.next))
+    (coming s c.in-Some.next))
 counted c =
     let hands : (Hands c.args.value.now c.loop-place.cursor
-    c.in-Is.place c.in-Is.next) = meets _ _ c.next_value.ensures c.in-Is.is in
+    c.in-Some.place c.in-Some.next) = meets _ _ c.next_value.ensures c.in-Some.is in
     let e = rw (← c.text.ensures, ← c.decoded_len.ensures.0) at (length_next (hands)) in
     omega (arith, c.loop-place.invariant)
 
@@ -32,20 +32,20 @@ loop-place-init c =
 pub overflow_add-n : goal.overflow_add-n
 overflow_add-n c = omega (arith, counted (goal.at.overflow_add-n c).After-decoded_len, values_bound c.args.value.now)
 
-pub overflow_add-n-in-Is : goal.overflow_add-n-in-Is
-overflow_add-n-in-Is c = omega (arith, counted (goal.at.overflow_add-n-in-Is c).After-decoded_len, values_bound c.args.value.now)
+pub overflow_add-n-in-Some : goal.overflow_add-n-in-Some
+overflow_add-n-in-Some c = omega (arith, counted (goal.at.overflow_add-n-in-Some c).After-decoded_len, values_bound c.args.value.now)
 
 pub loop-place-smaller : goal.loop-place-smaller
 loop-place-smaller c =
     let hands : (Hands c.args.value.now c.loop-place.cursor
-    c.in-Is.place c.in-Is.next) = meets _ _ c.next_value.ensures c.in-Is.is in
+    c.in-Some.place c.in-Some.next) = meets _ _ c.next_value.ensures c.in-Some.is in
     omega (arith, ap length (coming_next (hands)))
 
 pub loop-place-preserved : goal.loop-place-preserved
 loop-place-preserved c = counted (goal.at.loop-place-preserved c).After-decoded_len
 
-pub returns-in-Done : goal.returns-in-Done
-returns-in-Done c =
+pub returns : goal.returns
+returns c =
     let s = c.args.value.now in
-    let e = ap length (sections_done s c.loop-place.cursor (meets _ _ c.next_value.ensures c.in-Done.is)) in
+    let e = ap length (sections_done s c.loop-place.cursor (meets _ _ c.next_value.ensures c.in_default.is)) in
     (omega arith, omega (arith, values_bound s))

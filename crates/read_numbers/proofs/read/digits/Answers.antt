@@ -13,18 +13,18 @@ use Rattle.read_numbers.proofs.read.digits.Goals.{Joined-else-v-safe}
 -- the digit fits, by the cheap test or by the exact one
 fits : (c : Joined-else-v-safe)
     → let a = c.args in
-    c.loop-i.v * 10 + (get_or a.s.now c.loop-i.i 0 - 48) ≤ a.most
+    c.loop-b.v * 10 + (get_or a.s.now c.loop-b.b-index 0 - 48) ≤ a.most
 fits c = ⊎_elim (λ w. omega (arith, ltb-false)) (λ w. omega (arith, ltb-false)) c.else-v-safe.branch-raw
 
-pub returns-then-s-at : goal.returns-then-s-at
-returns-then-s-at c = sym (numeral_none _ _ _ _ c.if-s-at.true)
+pub returns-then-s-eq0 : goal.returns-then-s-eq0
+returns-then-s-eq0 c = sym (numeral_none _ _ c.args.s.now 0 (omega arith))
 
-pub loop-i-init : goal.loop-i-init
-loop-i-init c = (omega arith, numeral_starts _ _ _ _ c.if-s-at.false)
+pub loop-b-init : goal.loop-b-init
+loop-b-init c = (omega arith, numeral_starts _ _ c.args.s.now 0 (omega arith))
 
 pub returns-then-b-lt48 : goal.returns-then-b-lt48
 returns-then-b-lt48 c =
-    sym (c.loop-i.invariant.1 ∙ onwards_other _ _ _ _ _ c.loop-i-test.true (⊎_elim (λ w. inl (omega arith))
+    sym (c.loop-b.invariant.1 ∙ onwards_other _ _ _ _ _ c.loop-b-test.true (⊎_elim (λ w. inl (omega arith))
     (λ w. inr (omega (arith, ltb-true))) c.then-b-lt48.branch-raw))
 
 pub overflow_cast-d : goal.overflow_cast-d
@@ -34,7 +34,7 @@ pub overflow_sub-most : goal.overflow_sub-most
 overflow_sub-most c = omega (arith, ltb-false)
 
 pub returns-then-v-most : goal.returns-then-v-most
-returns-then-v-most c = sym (c.loop-i.invariant.1 ∙ onwards_over _ _ _ _ _ c.loop-i-test.true (omega (arith, ltb-false, ltb-true)))
+returns-then-v-most c = sym (c.loop-b.invariant.1 ∙ onwards_over _ _ _ _ _ c.loop-b-test.true (omega (arith, ltb-false, ltb-true)))
 
 pub overflow_mul-v : goal.overflow_mul-v
 overflow_mul-v c = omega (arith, fits (goal.at.overflow_mul-v c).Joined-else-v-safe)
@@ -42,14 +42,14 @@ overflow_mul-v c = omega (arith, fits (goal.at.overflow_mul-v c).Joined-else-v-s
 pub overflow_add-v : goal.overflow_add-v
 overflow_add-v c = omega (arith, fits (goal.at.overflow_add-v c).Joined-else-v-safe)
 
-pub loop-i-preserved : goal.loop-i-preserved
-loop-i-preserved c = (
-  fits (goal.at.loop-i-preserved c).Joined-else-v-safe,
-  c.loop-i.invariant.1 ∙ onwards_next _ _ _ _ _ c.loop-i-test.true (omega (arith, ltb-false)) (omega (arith, ltb-false)),
+pub loop-b-preserved : goal.loop-b-preserved
+loop-b-preserved c = (
+  fits (goal.at.loop-b-preserved c).Joined-else-v-safe,
+  c.loop-b.invariant.1 ∙ onwards_next _ _ _ _ _ c.loop-b-test.true (omega (arith, ltb-false)) (omega (arith, ltb-false)),
 )
 
 pub returns-then-v-least : goal.returns-then-v-least
-returns-then-v-least c = sym (c.loop-i.invariant.1 ∙ onwards_under _ _ _ _ _ c.loop-i-test.false c.if-v-least.true)
+returns-then-v-least c = sym (c.loop-b.invariant.1 ∙ onwards_under _ _ _ _ _ c.loop-b-test.false c.if-v-least.true)
 
 pub returns-else-v-least : goal.returns-else-v-least
-returns-else-v-least c = sym (c.loop-i.invariant.1 ∙ onwards_value _ _ _ _ _ c.loop-i-test.false c.if-v-least.false c.loop-i.invariant.0)
+returns-else-v-least c = sym (c.loop-b.invariant.1 ∙ onwards_value _ _ _ _ _ c.loop-b-test.false c.if-v-least.false c.loop-b.invariant.0)

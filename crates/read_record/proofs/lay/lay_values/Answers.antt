@@ -20,17 +20,17 @@ loop-place-init c =
 
 pub loop-place-smaller : goal.loop-place-smaller
 loop-place-smaller c =
-    let hands : Hands c.args.value.now c.loop-place.cursor c.in-Is.place c.in-Is.next = meets _ _ c.next_value.ensures c.in-Is.is in
+    let hands : Hands c.args.value.now c.loop-place.cursor c.in-Some.place c.in-Some.next = meets _ _ c.next_value.ensures c.in-Some.is in
     omega (arith, ap length (coming_next (hands)))
 
 pub loop-place-preserved : goal.loop-place-preserved
 loop-place-preserved c =
-    let hands : Hands c.args.value.now c.loop-place.cursor c.in-Is.place c.in-Is.next = meets _ _ c.next_value.ensures c.in-Is.is in
+    let hands : Hands c.args.value.now c.loop-place.cursor c.in-Some.place c.in-Some.next = meets _ _ c.next_value.ensures c.in-Some.is in
     let k = rw c.text.ensures at c.lay_decoded_section-to.ensures in
     (omega (arith, lays_length k, k.end), lays_rest (rw (sections_next (hands)) at c.loop-place.invariant.1) k)
 
-pub returns-in-Done : goal.returns-in-Done
-returns-in-Done c =
+pub returns : goal.returns
+returns c =
     let l = c.loop-place in
     let s = c.args.value.now in
-    none_left c.loop-place.invariant.0 (rw (sections_done s c.loop-place.cursor (meets _ _ c.next_value.ensures c.in-Done.is)) at c.loop-place.invariant.1)
+    none_left c.loop-place.invariant.0 (rw (sections_done s c.loop-place.cursor (meets _ _ c.next_value.ensures c.in_default.is)) at c.loop-place.invariant.1)

@@ -15,20 +15,20 @@ loop-next-init c = rw (coming_start c.args.value.now c.new-cursor.result c.new-c
 pub overflow_add-n : goal.overflow_add-n
 overflow_add-n c =
     let one : (let s = c.args.value.now in
-    length (coming s c.loop-next.cursor) ≡ 1 + length (coming s c.in-Is.next)) = omega (arith, ap length (coming_next (meets _ _ c.next_value.ensures c.in-Is.is))) in
+    length (coming s c.loop-next.cursor) ≡ 1 + length (coming s c.in-Some.next)) = omega (arith, ap length (coming_next (meets _ _ c.next_value.ensures c.in-Some.is))) in
     omega (arith, one, values_few c.args.value.now)
 
 pub loop-next-smaller : goal.loop-next-smaller
 loop-next-smaller c =
     let one : (let s = c.args.value.now in
-    length (coming s c.loop-next.cursor) ≡ 1 + length (coming s c.in-Is.next)) = omega (arith, ap length (coming_next (meets _ _ c.next_value.ensures c.in-Is.is))) in
+    length (coming s c.loop-next.cursor) ≡ 1 + length (coming s c.in-Some.next)) = omega (arith, ap length (coming_next (meets _ _ c.next_value.ensures c.in-Some.is))) in
     omega (arith, one)
 
 pub loop-next-preserved : goal.loop-next-preserved
 loop-next-preserved c =
     let one : (let s = c.args.value.now in
-    length (coming s c.loop-next.cursor) ≡ 1 + length (coming s c.in-Is.next)) = omega (arith, ap length (coming_next (meets _ _ c.next_value.ensures c.in-Is.is))) in
+    length (coming s c.loop-next.cursor) ≡ 1 + length (coming s c.in-Some.next)) = omega (arith, ap length (coming_next (meets _ _ c.next_value.ensures c.in-Some.is))) in
     omega (arith, one)
 
-pub returns-in-Done : goal.returns-in-Done
-returns-in-Done c = omega (arith, ap (λ l. length (map decoded l)) (meets _ _ c.next_value.ensures c.in-Done.is))
+pub returns : goal.returns
+returns c = omega (arith, ap (λ l. length (map decoded l)) (meets _ _ c.next_value.ensures c.in_default.is))

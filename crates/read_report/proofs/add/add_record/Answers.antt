@@ -1,20 +1,12 @@
 -- `add_record`: one more of the records, and one more of the reversed, or the length in the sum. Assumes nothing.
-use Prim.Native.Nat.{◌+◌, ◌-◌, ◌≤◌}
-use native.Mathlib.Omega.{arith}
 use native.Mathlib.Nat.{add-zero}
 use borrow.Author.Tests.{lt-ltb, le-ltb}
 use Rattle.base_lists.specs.Bit.{bit}
-use Rattle.read_numbers.specs.Number.{most64}
 use Rattle.read_report.proofs.add.add_record.Goals as goal
 
 pub returns-then-numbers : goal.returns-then-numbers
 unfolding bit
 returns-then-numbers c = rw (lt-ltb _ _ c.if-numbers.true) (simp add-zero)
-
-pub overflow_add-out-3 : goal.overflow_add-out-3
-overflow_add-out-3 c =
-    let fits : c.args.totals.sum + (c.args.numbers.end - c.args.numbers.start + 1) ≤ most64 = rw (le-ltb _ _ c.if-numbers.false) at c.requires.sum in
-    omega (arith, fits)
 
 pub returns : goal.returns
 unfolding bit

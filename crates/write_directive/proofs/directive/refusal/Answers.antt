@@ -1,16 +1,19 @@
 -- `refusal` answers the first reason, by the kind of the value. Assumes nothing.
 use Rattle.write_directive.specs.Directive.{directive_reasons}
+use Rattle.write_directive.specs.Judge.{reasons}
 use Rattle.write_directive.proofs.directive.refusal.Goals as goal
 
 pub returns-in-None : goal.returns-in-None
-unfolding directive_reasons
-returns-in-None c = rw c.in-None.is (rw c.no_faults.ensures at c.refusal.ensures)
+unfolding directive_reasons reasons
+returns-in-None c =
+    let d = c.default.ensures in
+    rw c.in-None.is (rw (d.0, d.1.0, d.1.1.0, d.1.1.1.0, d.1.1.1.1) at c.refusal.ensures)
 
 pub returns-in-Text : goal.returns-in-Text
 unfolding directive_reasons
 returns-in-Text c =
-    rw c.in-Text.is
-    (rw (c.no_faults-in-Text.ensures, c.breaks.ensures, c.is_long.ensures) at c.refusal-in-Text.ensures)
+    let d = c.default-in-Text.ensures.1 in
+    rw c.in-Text.is (rw (d.0, d.1.1.0, d.1.1.1, c.breaks.ensures, c.is_long.ensures) at c.refusal-in-Text.ensures)
 
 pub returns-in-Version : goal.returns-in-Version
 unfolding directive_reasons

@@ -4,4 +4,4 @@ use Rattle.write_directive.proofs.sequence_region.region_refusal.Goals as goal
 
 pub returns : goal.returns
 unfolding region_reasons
-returns c = rw (c.no_faults.ensures, c.is_unfit.ensures, c.is_long.ensures, c.is_same-own.ensures) at c.refusal.ensures
+returns c = rw (c.default.ensures.1.1.1.0, c.is_unfit.ensures, c.is_long.ensures, c.is_same-own.ensures) at c.refusal.ensures

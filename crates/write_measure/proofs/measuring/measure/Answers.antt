@@ -1,30 +1,38 @@
 -- `measure`: the first reason that holds, or the length. Assumes nothing.
-use mathlib.Core.Path.{sym, ◌∙◌}
+use native.Mathlib.Omega.{arith}
+use mathlib.Core.Path.{◌≡◌}
+use lib.ListN.{length}
 use borrow.Author.Tests.{lt-ltb}
+use Rattle.std.proofs.lemmas.Result.{err_from_is_err_and}
+use Rattle.base_lists.proofs.EveryLaws.{all_bytes}
 use Rattle.base_buffer.specs.Answer.{unless}
-use Rattle.base_buffer.proofs.AnswerLaws.{unless_refused}
-use Rattle.write_measure.specs.declared.measuring.Measured.TheVariants.{Refused}
+use Rattle.base_buffer.proofs.AnswerLaws.{unless_is, unless_not}
 use Rattle.write_measure.specs.Record.{record_reasons, record_line}
-use Rattle.write_measure.proofs.MeasuredLaws.{taken, measured_need}
+use Rattle.write_measure.proofs.FewLaws.{line_few}
+use Rattle.write_measure.proofs.MeasuredLaws.{taken}
 use Rattle.write_measure.proofs.measuring.measure.Goals as goal
 
 pub returns-then-sheet-gt-MOST_TEXT : goal.returns-then-sheet-gt-MOST_TEXT
 unfolding record_reasons unless
 returns-then-sheet-gt-MOST_TEXT c = rw (lt-ltb _ _ c.if-sheet-gt-MOST_TEXT.true)
 
-pub line_len-line-requires : goal.line_len-line-requires
-line_len-line-requires c = c.if-sheet-gt-MOST_TEXT.false
+pub refusal_behind-requires : goal.refusal_behind-requires
+refusal_behind-requires c = (c.if-sheet-gt-MOST_TEXT.false, c.put_line-form.ensures.form)
 
-pub refusal_behind-refused-requires : goal.refusal_behind-refused-requires
-refusal_behind-refused-requires c = (c.if-sheet-gt-MOST_TEXT.false, c.line_len-line.ensures.form)
-
-pub returns-then-refused-ne0 : goal.returns-then-refused-ne0
-returns-then-refused-ne0 c = rw (← c.refusal_behind-refused.ensures) (unless_refused Refused _ _ c.if-refused-ne0.true)
+pub returns-in_err-refusal_behind : goal.returns-in_err-refusal_behind
+unfolding unless
+returns-in_err-refusal_behind c =
+    let p = err_from_is_err_and c.from_residual.result c.from_residual.ensures.1 in
+    rw (p.1, p.2, unless_not _ c.refusal_behind.ensures c.in_err-refusal_behind.was)
 
 pub returns : goal.returns
-unfolding record_line
+unfolding unless
 returns c =
     let a = c.args in
-    let none = sym c.refusal_behind-refused.ensures ∙ c.if-refused-ne0.false in
+    let none = (unless_is c.refusal_behind.ensures c.in_ok-refusal_behind.was).0 in
     let form = (taken _ _ _ _ _ none).1 in
-    rw (c.line_len-line.ensures.long form.0 a.strand a.phase form.1) (rw form.1 (measured_need _ _ none))
+    let bytes = all_bytes a.sheet.now (λ i. omega (arith, c.type_inv.sheet i)) in
+    let few = line_few a.sheet.now a.start a.end a.strand a.phase form.0 bytes (omega arith) (omega arith) form.1 in
+    let counted : c.put_line-form.new.sink.bytes ≡ length (record_line a.sheet.now a.start a.end a.strand a.phase)
+    = omega (arith, c.put_line-form.ensures.line form.0 form.1, few, c.if-sheet-gt-MOST_TEXT.false) in
+    rw (none, counted)

@@ -1,17 +1,15 @@
 -- `refusal`: 24 for a sheet that is too long, else what is found behind it. Assumes nothing.
 use borrow.Author.Tests.{lt-ltb}
+use Rattle.base_buffer.specs.Answer.{unless}
 use Rattle.write_measure.specs.Record.{record_reasons}
 use Rattle.write_measure.proofs.measuring.refusal.Goals as goal
 
 pub returns-then-sheet-gt-MOST_TEXT : goal.returns-then-sheet-gt-MOST_TEXT
-unfolding record_reasons
+unfolding record_reasons unless
 returns-then-sheet-gt-MOST_TEXT c = rw (lt-ltb _ _ c.if-sheet-gt-MOST_TEXT.true)
 
-pub line_len-line-requires : goal.line_len-line-requires
-line_len-line-requires c = c.if-sheet-gt-MOST_TEXT.false
-
 pub refusal_behind-requires : goal.refusal_behind-requires
-refusal_behind-requires c = (c.if-sheet-gt-MOST_TEXT.false, c.line_len-line.ensures.form)
+refusal_behind-requires c = (c.if-sheet-gt-MOST_TEXT.false, c.put_line-form.ensures.form)
 
 pub returns : goal.returns
 returns c = c.refusal_behind.ensures

@@ -1,0 +1,2 @@
+pub mod RefusalLaws
+pub mod Unique

@@ -1,0 +1,11 @@
+-- `find_ink`: the first place of what stands from the cursor on. Assumes nothing.
+use Rattle.std.proofs.Common.{position, sym, ap, ◌∙◌}
+use Rattle.base_words.specs.Word.{is_ink}
+use Rattle.base_scan.proofs.FindLaws.{seek_some, seek_none}
+use Rattle.base_words.proofs.word.find_ink.Goals as goal
+
+pub returns-in-Some-clause-first : goal.returns-in-Some-clause-first
+returns-in-Some-clause-first c = seek_some _ _ _ _ (sym (ap (position is_ink) c.part.ensures) ∙ sym c.first_ink.ensures ∙ c.in-Some.is)
+
+pub returns-in-None-clause-first : goal.returns-in-None-clause-first
+returns-in-None-clause-first c = seek_none _ _ _ (sym (ap (position is_ink) c.part.ensures) ∙ sym c.first_ink.ensures ∙ c.in-None.is)

@@ -1,2 +1,0 @@
--- What the promises of private functions cite, and no public promise does.
-pub mod Side

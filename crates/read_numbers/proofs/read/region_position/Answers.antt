@@ -1,5 +1,0 @@
--- `region_position`: the digits from where `past_plus` says. Assumes nothing.
-use Rattle.read_numbers.proofs.read.region_position.Goals as goal
-
-pub returns : goal.returns
-returns c = rw c.past_plus.ensures at c.digits.ensures

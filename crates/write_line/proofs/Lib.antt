@@ -1,0 +1,3 @@
+pub mod LedLaws
+pub mod LoopLaws
+pub mod PassLaws

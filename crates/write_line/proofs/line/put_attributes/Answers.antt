@@ -1,0 +1,36 @@
+-- `put_attributes`: what takes those that are left, from the cursor on, takes all of them. Assumes nothing.
+use Prim.Native.Nat.{◌+◌, ◌-◌}
+use native.Mathlib.Omega.{arith}
+use mathlib.Core.Path.{◌≡◌}
+use Rattle.base_lists.specs.Bytes.{semicolon}
+use Rattle.percent_sets.specs.declared.Set.TheVariants.{Attribute}
+use Rattle.percent_coding.specs.Percent.{encoded}
+use Rattle.percent_sets.specs.Sets.{escapes}
+use Rattle.read_attributes.specs.Written.{written}
+use Rattle.sheet_form.specs.Sheet.{read_attribute}
+use Rattle.sheet_form.proofs.PastLaws.{past_inside, past_stuck}
+use Rattle.write_line.proofs.LoopLaws.{takes_more, takes_last}
+use Rattle.write_line.proofs.line.put_attributes.Goals as goal
+
+pub loop-init : goal.loop-init
+loop-init g c = (c.requires, λ r q left e p. let all : left ≡ c.args.count = omega arith in rw all at p)
+
+pub returns-in_err-from : goal.returns-in_err-from
+returns-in_err-from g c =
+    let l = c.loop in
+    let left = c.args.count - l.counter in
+    rw c.from_residual.ensures
+    (l.invariant.1 _ _ left (omega (arith, c.loop-test.true)) (past_stuck read_attribute left (left - 1) l.from (omega (arith, c.loop-test.true)) c.put_attribute.ensures c.in_err-from.was))
+
+pub loop-preserved : goal.loop-preserved
+loop-preserved g c =
+    let l = c.loop in (
+      past_inside c.put_attribute.ensures c.in_ok-from.was,
+      λ r q left e p. l.invariant.1 r q (left + 1) (omega arith)
+          (takes_more g.S.Sink.laws read_attribute (written (encoded (escapes Attribute))) semicolon (left + 1) left l.from (omega arith) c.put_attribute.ensures c.in_ok-from.was p),
+    )
+
+pub returns : goal.returns
+returns g c =
+    let l = c.loop in
+    l.invariant.1 _ _ 0 (omega (arith, c.loop-test.false)) (takes_last g.S.Sink.laws read_attribute (written (encoded (escapes Attribute))) l.lead semicolon 0 l.from (omega arith) l.invariant.0)
