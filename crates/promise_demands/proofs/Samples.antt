@@ -2,6 +2,7 @@
 use mathlib.Core.Path.{refl}
 use mathlib.Core.List.{flat_map}
 use Rattle.base_lists.specs.Bytes.{Every, sans}
+use Rattle.base_refusals.specs.declared.Refusal.TheVariants as refusal
 use Rattle.base_words.specs.Same.{same, is_dot}
 use Rattle.base_buffer.specs.Answer.{unless}
 use Rattle.base_scan.specs.Find.{index, seek}
@@ -35,12 +36,12 @@ unfolding index seek same is_dot is_space digits all_digits some_digits digits_v
     column9.walk_from column9.attribute column9.attributes written9.column patch_of minor_of version_of read_count times counted
     read_sheet ended count_of section_of counted_of sheet_of unless score_column columns record_reasons record_line flat_map
 samples_hold =
-    refl also (refl, refl)
+    (refusal.Columns, refl, refl) also (refl, refl)
     also refl also refl also refl also refl
     also refl also refl
     also refl also refl also refl
-    also refl also refl also refl
+    also (refusal.Patch, refl, refl) also (refusal.Minor, refl, refl) also refl
     also refl also refl
     also refl also (refl, refl)
-    also refl also refl also refl
+    also (refusal.Position, refl, refl) also refl also (refusal.Position, refl, refl)
     also tt
