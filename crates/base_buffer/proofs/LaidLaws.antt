@@ -4,11 +4,11 @@ use native.Mathlib.Numerals.{add-one}
 use native.Mathlib.Nat.{zero-add, add-zero, min-eq_left}
 use mathlib.Core.Path.{◌≡◌, refl, sym, ap, ◌∙◌}
 use mathlib.Core.Logic.{◌⊎◌, inl, inr}
-use mathlib.Core.List.{List, [], ◌∷◌, ◌++◌, append_assoc}
+use mathlib.Core.List.{List, [], ◌∷◌, ◌++◌}
 use Prim.Native.Nat.{ℕ, suc, ◌+◌, ◌-◌, ◌≤◌, ◌<◌, min}
-use lib.ListN.{length, take, drop, set, length-append, drop_of_length-le, take-append-drop}
+use lib.ListN.{length, drop, get_or, set, length-append, drop_of_length-le}
 use Rattle.base_lists.proofs.OrderLaws.{le_or_lt}
-use lib.Seq.{sets, sets-eq, length-sets, set_out, set-set, set_comm, drop-drop, length-take-le}
+use lib.Seq.{sets, sets-eq, length-sets, set_out, set-set, set_comm, drop-cons}
 use Rattle.base_buffer.specs.Laid.{laid, Lays}
 
 laid_sets : (text d : List ℕ) (at : ℕ) → laid d at text ≡ sets d at text
@@ -47,6 +47,14 @@ laid_clipped text d at = go (le_or_lt at (length d))
     go (inl h) = rw (min-eq_left h)
     go (inr h) = laid_past text d (min at (length d)) (omega arith) ∙ sym (laid_past text d at (omega arith))
 
+-- a copy, one byte further
+pub laid_next : (s d : List ℕ) (at i : ℕ) → i < length s
+    → laid d (at + i) (drop i s) ≡ laid (set d (at + i) (get_or s i 0)) (at + (i + 1)) (drop (i + 1) s)
+unfolding laid
+laid_next s d at i h =
+    let e : at + i + 1 ≡ at + suc i = omega arith in
+    rw (add-one, drop-cons s i 0 h) (ap (λ (n : ℕ). laid (set d (at + i) (get_or s i 0)) n (drop (suc i) s)) e)
+
 -- a copy of all that there is, or that there is room for
 pub laid_over : (s d : List ℕ) (at i : ℕ) → i ≡ min (length s) (length d - at) → at ≤ length d → laid d (at + i) (drop i s) ≡ d
 unfolding laid
@@ -55,19 +63,6 @@ laid_over s d at i e h = go (le_or_lt (length s) i)
     go : (length s ≤ i) ⊎ (i < length s) → laid d (at + i) (drop i s) ≡ d
     go (inl k) = rw (drop_of_length-le s k)
     go (inr k) = laid_past (drop i s) d (at + i) (omega arith)
-
--- so it is what stands before, the n bytes that there is room for, and what stands behind
-pub laid_copy : (s d ys : List ℕ) (at n k : ℕ) → n ≡ min (length s) (length d - at) → at ≤ length d → ys ≡ take n s → k ≡ n
-    → take at d ++ (ys ++ drop k (drop at d)) ≡ laid d at s
-laid_copy s d ys at n k e h y m =
-    let l : length (take n s) ≡ n = length-take-le n s (omega arith) in
-    let long = length_laid (take n s) d at in
-    let over = laid_over s (laid d at (take n s)) at n (omega arith) (omega arith) in
-    sym (
-    ap (laid d at) (sym (take-append-drop n s))
-    ∙ laid_append (take n s) (drop n s) d at
-    ∙ rw (l, over, laid_sets (take n s) d at, sets-eq (take n s) d at (omega arith), y, m, drop-drop n at d, l) (simp append_assoc)
-    )
 
 -- a byte before a text that is laid may as well be set first
 set_laid : (text d : List ℕ) (at k x : ℕ) → k < at → set (laid d at text) k x ≡ laid (set d k x) at text

@@ -59,7 +59,8 @@ pub fn lay_byte(b: u8, out: &mut [u8], at: usize) -> usize
     out.len()
 }
 
-// Lays a text: a copy of as many bytes as there is room for.
+// Lays a text: a copy of as many bytes as there is room for. The library's own copy of slices would call `memmove` of the C library, and a
+// static library for C is to need no name from outside.
 pub fn lay(s: &[u8], out: &mut [u8], at: usize) -> usize
     ensures { Lays s.now out.old at out.new result }
 {
@@ -68,6 +69,8 @@ pub fn lay(s: &[u8], out: &mut [u8], at: usize) -> usize
         return end;
     }
     let n = base_numbers::least(s.len(), end - at);
-    out[at..at + n].copy_from_slice(&s[..n]);
+    for i in 0..n {
+        out[at + i] = s[i];
+    }
     at + n
 }

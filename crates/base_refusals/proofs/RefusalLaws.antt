@@ -1,6 +1,6 @@
--- Each reason has its own number, and none has 0 or 22. Assumes nothing.
+-- Each reason has its own number, that of RULES 10, and none has 0 or 22. Assumes nothing.
 use mathlib.Core.Path.{◌≡◌, refl}
-use Rattle.std.specs.Prelude.{ℕ, Option, Some, None, eqb, cond, List, [], ◌∷◌}
+use Rattle.std.specs.Prelude.{ℕ, Option, Some, None, Result, Err, eqb, cond, List, [], ◌∷◌, map}
 use Rattle.base_refusals.specs.declared.Refusal.{Refusal}
 use Rattle.base_refusals.specs.declared.Refusal.TheVariants as refusal
 use Rattle.base_refusals.specs.Refusal.{number}
@@ -12,6 +12,18 @@ reasons =
     refusal.RegionEndMissing ∷ refusal.RegionEnd ∷ refusal.BuildSourceMissing ∷ refusal.BuildNameMissing ∷ refusal.Score ∷
     refusal.PhaseMissing ∷ refusal.Key ∷ refusal.Text ∷ refusal.ValueKey ∷ refusal.Sheet ∷ refusal.TooLong ∷
     refusal.LineTooLong ∷ refusal.Sum ∷ refusal.Hold ∷ []
+
+-- their numbers once more, in the order of RULES 10: 22 and 27 to 33 are no reason's, so two that are exchanged in the code and in its
+-- definition are refused here
+in_order : map number reasons ≡
+    1 ∷ 2 ∷ 3 ∷ 4 ∷ 5 ∷ 6 ∷ 7 ∷ 8 ∷ 9 ∷ 10 ∷ 11 ∷ 12 ∷ 13 ∷ 14 ∷ 15 ∷ 16 ∷ 17 ∷ 18 ∷ 19 ∷ 20 ∷ 21 ∷ 23 ∷ 24 ∷ 25 ∷ 26 ∷ 34 ∷ []
+unfolding reasons
+in_order = refl
+
+-- an answer is refused, and its reason has this number
+infix 2 ◌gives◌
+abbrev pub ◌gives◌ : {A : Type 0} → Result A Refusal → ℕ → Type 0
+◌gives◌ answer n = (r : Refusal) × (answer ≡ Err r) × (number r ≡ n)
 
 found : ℕ → List Refusal → Option Refusal
 found n [] = None

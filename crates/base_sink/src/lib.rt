@@ -7,14 +7,17 @@
 #![tactic(auto)]
 
 ghost use Rattle.std.specs.Prelude.{◌≡◌, [], ◌∷◌, List, ℕ};
-ghost use Rattle.base_sink.specs.Sink.{SinkLaws, PageTook, CountTook, NowhereTook};
+ghost use Rattle.base_sink.specs.Sink.{SinkLaws, PageTook, CountTook, NowhereTook, page_shows, count_shows, nowhere_shows};
 ghost use Rattle.base_sink.specs.Laws.{page_laws, count_laws, nowhere_laws};
 
 pub trait Sink {
     // What the sink is behind a text, and what it was before.
     ghost took: { List ℕ → Self → Self → Type 0 };
 
-    ghost laws: { SinkLaws took };
+    // What it shows: the bytes that it holds, and its number.
+    ghost shows: { Self → List ℕ × ℕ };
+
+    ghost laws: { SinkLaws took shows };
 
     fn byte(&mut self, b: u8)
         ensures { took (b ∷ []) self.old self.new };
@@ -32,6 +35,8 @@ pub struct Page<'a> {
 
 impl<'a> Sink for Page<'a> {
     ghost took = { PageTook };
+
+    ghost shows = { page_shows };
 
     ghost laws = { page_laws };
 
@@ -57,6 +62,8 @@ pub struct Count {
 impl Sink for Count {
     ghost took = { CountTook };
 
+    ghost shows = { count_shows };
+
     ghost laws = { count_laws };
 
     fn byte(&mut self, _b: u8) {
@@ -74,6 +81,8 @@ pub struct Nowhere;
 
 impl Sink for Nowhere {
     ghost took = { NowhereTook };
+
+    ghost shows = { nowhere_shows };
 
     ghost laws = { nowhere_laws };
 

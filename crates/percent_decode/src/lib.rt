@@ -11,6 +11,8 @@ mod hex;
 mod put;
 
 ghost use Rattle.std.specs.Prelude.{◌≡◌, [], ◌≤◌, ◌<◌, length};
+ghost use Rattle.base_lists.specs.Bytes.{percent};
+ghost use Rattle.base_scan.specs.Find.{found};
 ghost use Rattle.base_words.specs.Same.{same};
 ghost use Rattle.base_buffer.specs.Answer.{Wrote};
 ghost use Rattle.base_buffer.specs.Laid.{Lays};
@@ -55,6 +57,16 @@ fn decode_at(s: &[u8], i: usize) -> Unit
     kept
 }
 
+// The first percent sign from `at` on, or the length. Not compiled into the loops below: there the search would take registers from the
+// steps over escapes.
+#[inline(never)]
+fn next_sign(s: &[u8], at: usize) -> usize
+    ensures first { result ≡ found percent at s.now }
+    ensures within { result ≤ length s.now }
+{
+    base_scan::find(s, at, b'%')
+}
+
 // How long the text is when decoded. A step is one byte, three or a run, which no iterator makes. Runs without a percent sign count as
 // they are. The next percent sign is sought only where a run begins: a search before each of many escapes that stand side by side would
 // take longer than decoding them.
@@ -68,7 +80,7 @@ pub fn decoded_len(s: &[u8]) -> usize
             i = decode_at(s, i).next;
             n += 1;
         } else {
-            let sign = base_scan::find(s, i + 1, b'%');
+            let sign = next_sign(s, i + 1);
             n += sign - i;
             i = sign;
         }

@@ -17,7 +17,7 @@ pub fn put_decoded<S: Sink>(s: &[u8], sink: &mut S)
             sink.byte(unit.byte);
             i = unit.next;
         } else {
-            let sign = base_scan::find(s, i + 1, b'%');
+            let sign = super::next_sign(s, i + 1);
             sink.text(base_scan::part(s, i, sign));
             i = sign;
         }

@@ -1,5 +1,5 @@
 // An encoded text, put into any sink.
-ghost use Rattle.std.specs.Prelude.{◌≡◌, ◌<◌};
+ghost use Rattle.std.specs.Prelude.{◌≡◌, ◌<◌, ◌-◌, ◌^◌, min, length};
 ghost use Rattle.percent_coding.specs.Percent.{escape, piece, encoded};
 ghost use Rattle.percent_sets.specs.Sets.{escapes, classes};
 
@@ -47,6 +47,16 @@ pub fn put_encoded<S: Sink>(set: Set, s: &[u8], sink: &mut S)
     }
 }
 
+// The length of the encoded text, as `encoded_len`, which asks each byte: not asked where nothing is escaped.
+fn coded_len(set: Set, s: &[u8]) -> usize
+    ensures { result ≡ min (length (encoded (escapes set) s.now)) (2 ^ 64 - 1) }
+{
+    if super::plain::stays(set, s) {
+        return s.len();
+    }
+    super::encoded_len(set, s)
+}
+
 // A sink that takes a text encoded by a set.
 pub trait Coded: Sink {
     fn encoded(&mut self, set: Set, s: &[u8])
@@ -61,7 +71,7 @@ impl<'a> Coded for Page<'a> {
 
 impl Coded for Count {
     fn encoded(&mut self, set: Set, s: &[u8]) {
-        put_encoded(set, s, self);
+        self.bytes = self.bytes.saturating_add(coded_len(set, s));
     }
 }
 

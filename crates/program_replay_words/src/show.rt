@@ -41,9 +41,12 @@ pub fn refused(n: u32) {
 
 // Why a writer wrote nothing: `!` and the number, and for 22 the length needed.
 pub fn unwritten(error: WriteError) {
-    refused(error.number());
-    if let WriteError::NoRoom(n) = error {
-        number(n as u64)
+    match error {
+        WriteError::Refused(reason) => refused(reason.number()),
+        WriteError::NoRoom(n) => {
+            word(b"! 22");
+            number(n as u64)
+        }
     }
 }
 

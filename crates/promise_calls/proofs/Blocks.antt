@@ -1,6 +1,12 @@
 -- Each building block does what specs/Blocks.antt says: that is its contract, which its code meets, or follows from it. Assumes nothing.
 use lib.ListN.{length}
+use mathlib.Core.Path.{◌≡◌, refl, sym, ◌∙◌}
 use Prim.Native.Nat.{◌≤◌, ◌*◌}
+use Rattle.std.specs.Prelude.{Some, is_some}
+use Rattle.base_buffer.specs.Answer.{refusal_of, unless}
+use Rattle.sheet_form.specs.Sheet.{Sheet, sheet_read}
+use Rattle.write_line.specs.Record.{record_line}
+use Rattle.write_measure.specs.Record.{faults, fault_reasons}
 use Rattle.base_buffer.proofs.AnswerLaws.{lays_one}
 use Rattle.base_scan.proofs as base_scan
 use Rattle.base_words.proofs as base_words
@@ -12,6 +18,8 @@ use Rattle.write_decimals.proofs as write_decimals
 use Rattle.percent_sets.proofs as percent_sets
 use Rattle.percent_decode.proofs as percent_decode
 use Rattle.percent_encode.proofs as percent_encode
+use Rattle.write_line.proofs as write_line
+use Rattle.write_measure.proofs as write_measure
 use Rattle.read_score.proofs as read_score
 use Rattle.read_tokens.proofs as read_tokens
 use Rattle.read_columns.proofs as read_columns
@@ -21,7 +29,7 @@ use Rattle.read_judge.proofs as read_judge
 use Rattle.write_texts.proofs as write_texts
 use Rattle.c_answers.proofs as c_answers
 use Rattle.promise_calls.specs.Blocks.{Blocks}
-use Rattle.promise_calls.proofs.DoesLaws.{told, also, first}
+use Rattle.promise_calls.proofs.DoesLaws.{told, also, first, both}
 
 pub blocks : Blocks
 blocks =
@@ -40,6 +48,7 @@ blocks =
       find_ink = first (λ _ (s, _) left r. r ≤ length s.now) (λ M. base_words.find_ink.Met.met);
       next_word = told (λ M. base_words.next_word.Met.met);
       least = told (λ M. base_numbers.least.Met.met);
+      either = told (λ M. base_numbers.either.Met.met);
       refusal_number = told (λ M. base_refusals.Refusal.number.Met.met);
       error_number = told (λ M. base_buffer.WriteError.number.Met.met);
       lay_byte = record { does = λ M. base_buffer.lay_byte.Met.met; one = lays_one };
@@ -50,6 +59,29 @@ blocks =
       lay_count = record { does = λ M. sheet_sections.lay_count.Met.met; one = lays_one };
       lay_section = record { does = λ M. sheet_sections.lay_section.Met.met; one = lays_one };
       lay_decoded_section = record { does = λ M. sheet_sections.lay_decoded_section.Met.met; one = lays_one };
+      put_decimal = record {
+        does = λ M 𝓤 𝓛 𝓜 𝓡 w S l (g, d) has. write_decimals.put_decimal.Met.met 𝓤 𝓛 𝓜 𝓡 w S l g d has;
+        one = λ {S} {g} p q. (refl, g.0.laws.one _ _ _ _ p q);
+      };
+      put_decoded = record {
+        does = λ M 𝓤 𝓛 𝓜 𝓡 w S l (g, d) has. percent_decode.put_decoded.Met.met 𝓤 𝓛 𝓜 𝓡 w S l g d has;
+        one = λ {S} {g} p q. (refl, g.0.laws.one _ _ _ _ p q);
+      };
+      put_encoded = record {
+        does = λ M 𝓤 𝓛 𝓜 𝓡 w S l (g, d) has. percent_encode.put_encoded.Met.met 𝓤 𝓛 𝓜 𝓡 w S l g d has;
+        one = λ {S} {g} p q. (refl, g.0.laws.one _ _ _ _ p q);
+      };
+      put_line = both (λ S (_, (_, (g, _))) κs (sheet, _) b r. r ≡ is_some (sheet_read sheet.now))
+          (λ S (_, (_, (g, _))) κs (sheet, (start, (end, (strand, (phase, (sink, _)))))) (_, (_, (_, (_, (_, (left, _)))))) r.
+          g.took (record_line sheet.now start end strand phase) sink.now left.now)
+          (λ M 𝓤 𝓛 𝓜 𝓡 w S l (g, (d, (h, e))) (m, n). write_line.put_line.Met.met 𝓤 𝓛 𝓜 𝓡 w S l g d h e m n)
+          (λ S g κs a b b' r r' p q. (p.0 ∙ sym q.0, g.1.1.0.laws.one _ _ _ _ p.1 q.1));
+      is_form = told (λ M. write_line.is_form.Met.met);
+      count_line = told (λ M. write_line.count_line.Met.met);
+      fault = first
+          (λ _ (sheet, (start, (end, (strand, (phase, _))))) left r.
+          (s : Sheet) → sheet_read sheet.now ≡ Some s → r ≡ unless (refusal_of (fault_reasons (faults (Some s) start end strand phase))) (tt {0}))
+          (λ M. write_measure.fault.Met.met);
       decimal_len = also (λ _ a left r. r ≤ 20) (λ M. write_decimals.decimal_len.Met.met);
       decoded_len = also (λ _ (s, _) left r. r ≤ length s.now) (λ M. percent_decode.decoded_len.Met.met);
       count_escaped = also (λ _ (_, (s, _)) left r. r ≤ length s.now) (λ M. percent_encode.count_escaped.Met.met);

@@ -1,14 +1,24 @@
 -- What a call does, from the contract that its code meets. Assumes nothing.
 use mathlib.Core.Path.{◌≡◌, refl, sym, ◌∙◌}
+use mathlib.Core.List.{List, [], ◌∷◌}
+use Prim.Native.Nat.{ℕ}
 use seplogic.Ra.Ura.{Ura}
-use mir.Syntax.{Callee}
-use base.Logic.{ent, sep, emp, fst∗}
+use mir.Syntax.{Callee, Args as Generics, Dicts, a_type}
+use base.Fml.{Lft}
+use base.Logic.{ent, sep, emp, fst∗, snd∗}
+use prog.Model.{Model}
+use prog.Routine.{Env}
 use prog.Wired.{Code}
-use contract.Monad.{fact, fact_mono, fm→mono}
+use types.Logic.{Logic}
+use denote.Param.{bounded}
+use denote.RattleType.{RattleType}
+use contract.BorrowLft.{◌⊑◌}
+use contract.Monad.{fact, fact_i, fact_use, fact_mono, fm→mono}
+use contract.Running.{Running}
 use denote.Triple.Clauses.{Ended}
 use denote.Triple.Table.{run_framed}
 use denote.Triple.Weaken.{weaken}
-use Rattle.promise_calls.specs.Does.{Lifetimes, Arguments, Answer, Left, Clause, Promise, Meeting, Does, Tells}
+use Rattle.promise_calls.specs.Does.{Lifetimes, Arguments, Answer, Left, Clause, Promise, Meeting, Does, Tells, MeetingOver, Puts}
 
 -- what follows from what the code promises, it promises too
 less : (T : Ended) (name : Callee) (code : Code) (Q R : Promise T)
@@ -47,3 +57,50 @@ module _ {T : Ended} {name : Callee} {code : Code} {A : Lifetimes T → Type 0} 
       let more : Promise T = λ M 𝓤 κs a b r. fact 𝓤 (S κs a b r) in
       told (less T name code (λ M 𝓤 κs a b r. sep 𝓤 (says M 𝓤 κs a b r) (more M 𝓤 κs a b r)) says
       (λ M 𝓤 κs a b r. fst∗ 𝓤 (says M 𝓤 κs a b r) (more M 𝓤 κs a b r)) met)
+
+module _ {G : RattleType → Type 1} (dicts : (S : RattleType) → G S → Dicts)
+    (Has : (M : Type 1) (𝓤 : Ura M) (𝓛 : Logic 𝓤) (𝓜 : Model 𝓤 𝓛.H) (𝓡 : Running 𝓤 𝓛.H 𝓜) → Env → (S : RattleType) → G S → Type 2)
+    (T : (S : RattleType) → G S → Ended) (name : Generics → Callee) (code : Code) (lent : (S : RattleType) (g : G S) → Lifetimes (T S g) → Lft) where
+  -- as `less`, of every type that has the trait
+  less_over : (Q R : (S : RattleType) (g : G S) → Promise (T S g))
+      → ((S : RattleType) (g : G S) (M : Type 1) (𝓤 : Ura M) (κs : Lifetimes (T S g)) (a : Arguments (T S g) κs) (b : Left (T S g) κs)
+      (r : Answer (T S g) κs) → ent 𝓤 (Q S g M 𝓤 κs a b r) (R S g M 𝓤 κs a b r))
+      → MeetingOver dicts Has T name code lent Q → MeetingOver dicts Has T name code lent R
+  less_over Q R h met M 𝓤 𝓛 𝓜 𝓡 wired S l g has =
+      let callee = name (bounded (a_type ∷ []) (S, tt {1}) (dicts S g)) in
+      weaken 𝓛 (T S g)
+      (λ κs a. record {
+        ghost = Unit {0};
+        requires = λ i. sep 𝓤 (fact 𝓤 (lent S g κs ⊑ S.lives)) (emp 𝓤);
+        ensures = λ i r b. Q S g M 𝓤 κs a b r;
+      })
+      (λ κs a i r b. R S g M 𝓤 κs a b r)
+      (λ κs a i r ws. h S g M 𝓤 κs a _ r)
+      (𝓡.run (𝓡.env callee))
+      (λ vs. fm→mono 𝓤 (𝓡.run (𝓡.env callee) vs) (run_framed 𝓤 𝓛.H 𝓜 𝓡 (𝓡.env callee) vs))
+      (met M 𝓤 𝓛 𝓜 𝓡 wired S l g has)
+
+  -- two clauses are one
+  as_one : (P Q : (S : RattleType) (g : G S) → Clause (T S g))
+      → MeetingOver dicts Has T name code lent (λ S g M 𝓤 κs a b r. sep 𝓤 (fact 𝓤 (P S g κs a b r)) (fact 𝓤 (Q S g κs a b r)))
+      → MeetingOver dicts Has T name code lent (λ S g M 𝓤 κs a b r. fact 𝓤 (P S g κs a b r × Q S g κs a b r))
+  as_one P Q =
+      less_over (λ S g M 𝓤 κs a b r. sep 𝓤 (fact 𝓤 (P S g κs a b r)) (fact 𝓤 (Q S g κs a b r)))
+      (λ S g M 𝓤 κs a b r. fact 𝓤 (P S g κs a b r × Q S g κs a b r))
+      (λ S g M 𝓤 κs a b r.
+      let p = fact 𝓤 (P S g κs a b r) in
+      let q = fact 𝓤 (Q S g κs a b r) in
+      fact_use 𝓤 (P S g κs a b r) (fst∗ 𝓤 p q) (λ x. fact_use 𝓤 (Q S g κs a b r) (snd∗ 𝓤 p q)
+      (λ y. fact_i 𝓤 (P S g κs a b r × Q S g κs a b r) (sep 𝓤 p q) (x, y))))
+
+module _ {G : RattleType → Type 1} {dicts : (S : RattleType) → G S → Dicts}
+    {Has : (M : Type 1) (𝓤 : Ura M) (𝓛 : Logic 𝓤) (𝓜 : Model 𝓤 𝓛.H) (𝓡 : Running 𝓤 𝓛.H 𝓜) → Env → (S : RattleType) → G S → Type 2}
+    {T : (S : RattleType) → G S → Ended} {name : Generics → Callee} {code : Code} {lent : (S : RattleType) (g : G S) → Lifetimes (T S g) → Lft}
+    {shows : (S : RattleType) (g : G S) (κs : Lifetimes (T S g)) → Left (T S g) κs → List ℕ × ℕ} where
+  -- the contract has two clauses, and says no more
+  pub both : (P Q : (S : RattleType) (g : G S) → Clause (T S g))
+      → MeetingOver dicts Has T name code lent (λ S g M 𝓤 κs a b r. sep 𝓤 (fact 𝓤 (P S g κs a b r)) (fact 𝓤 (Q S g κs a b r)))
+      → ((S : RattleType) (g : G S) (κs : Lifetimes (T S g)) (a : Arguments (T S g) κs) (b b' : Left (T S g) κs) (r r' : Answer (T S g) κs)
+      → P S g κs a b r × Q S g κs a b r → P S g κs a b' r' × Q S g κs a b' r' → (r ≡ r') × (shows S g κs b ≡ shows S g κs b'))
+      → Puts dicts Has T name code lent shows (λ S g κs a b r. P S g κs a b r × Q S g κs a b r)
+  both P Q met one = record { does = as_one dicts Has T name code lent P Q met; one = λ {S} {g} {κs} {a} {b} {b'} {r} {r'} p q. one S g κs a b b' r r' p q }

@@ -1,6 +1,6 @@
 -- The building blocks, which docs/PROMISES.md lists: public functions that other crates call, and that are no calls of the rules. Each is
 -- tied to its definition, as in specs/Calls.antt. Assumes nothing: these are definitions.
-use Rattle.std.specs.Prelude.{[], ◌∷◌, length, take, min, ◌-◌, ◌^◌}
+use Rattle.std.specs.Prelude.{◌≡◌, [], ◌∷◌, cond, is_some, length, take, min, ◌-◌, ◌^◌}
 use Rattle.base_scan.specs.Find.{found, found_two, found_on, found_last}
 use Rattle.base_scan.specs.Mask.{mask}
 use Rattle.base_scan.specs.Part.{part, text_at}
@@ -18,8 +18,10 @@ use Rattle.read_tokens.specs.Tokens.{strand_number, strand_byte, phase_number, p
 use Rattle.read_columns.specs.Columns as columns
 use Rattle.read_columns.specs.Columns.{is_own}
 use Rattle.sheet_form.specs.Cursor.{count_at, section_at}
-use Rattle.sheet_form.specs.Sheet.{count_of, section_of}
+use Rattle.sheet_form.specs.Sheet.{count_of, section_of, sheet_read}
 use Rattle.read_judge.specs.Judge.{score_of_token}
+use Rattle.write_line.specs.Record.{record_line, counted_line}
+use Rattle.write_measure.specs.Record.{fault_of}
 use Rattle.write_texts.specs.Text as texts
 use Rattle.c_answers.specs.Answers.{bounds_of_c, c_bounds, no_bounds, c_position, c_written}
 use Rattle.base_scan.specs.contracts as base_scan_contracts
@@ -32,6 +34,8 @@ use Rattle.write_decimals.specs.contracts as write_decimals_contracts
 use Rattle.percent_sets.specs.contracts as percent_sets_contracts
 use Rattle.percent_decode.specs.contracts as percent_decode_contracts
 use Rattle.percent_encode.specs.contracts as percent_encode_contracts
+use Rattle.write_line.specs.contracts as write_line_contracts
+use Rattle.write_measure.specs.contracts as write_measure_contracts
 use Rattle.read_score.specs.contracts as read_score_contracts
 use Rattle.read_tokens.specs.contracts as read_tokens_contracts
 use Rattle.read_columns.specs.contracts as read_columns_contracts
@@ -50,6 +54,8 @@ use Rattle.write_decimals.proofs as write_decimals
 use Rattle.percent_sets.proofs as percent_sets
 use Rattle.percent_decode.proofs as percent_decode
 use Rattle.percent_encode.proofs as percent_encode
+use Rattle.write_line.proofs as write_line
+use Rattle.write_measure.proofs as write_measure
 use Rattle.read_score.proofs as read_score
 use Rattle.read_tokens.proofs as read_tokens
 use Rattle.read_columns.proofs as read_columns
@@ -58,7 +64,8 @@ use Rattle.sheet_sections.proofs as sheet_sections
 use Rattle.read_judge.proofs as read_judge
 use Rattle.write_texts.proofs as write_texts
 use Rattle.c_answers.proofs as c_answers
-use Rattle.promise_calls.specs.Does.{Gives, Shows, Fills}
+use Rattle.promise_calls.specs.Does.{Gives, Shows, Fills, Puts}
+use Rattle.promise_calls.specs.Sinks.{sink_dicts, coded_dicts, SinkMet, CodedMet}
 
 pub record Blocks : Type 2 where
   -- parts and words of a text
@@ -91,6 +98,8 @@ pub record Blocks : Type 2 where
   -- numbers
   pub least : Gives base_numbers_contracts.least.ended base_numbers.least.Symbol.name base_numbers.least.Symbol.code
       (λ _ (a, (b, _)). min a b)
+  pub either : Gives base_numbers_contracts.either.ended base_numbers.either.Symbol.name base_numbers.either.Symbol.code
+      (λ _ (test, (number, (other, _))). cond test number other)
   pub refusal_number : Gives base_refusals_contracts.Refusal.number.ended
       base_refusals.Refusal.number.Symbol.name base_refusals.Refusal.number.Symbol.code
       (λ _ (reason, _). refusals.number reason)
@@ -122,6 +131,31 @@ pub record Blocks : Type 2 where
       sheet_sections.lay_decoded_section.Symbol.name sheet_sections.lay_decoded_section.Symbol.code
       (λ _ (_, (out, _)). out.now)
       (λ _ (text, (out, (at, _))). Lays (section_of (decoded text.now)) out.now at)
+  -- pieces put into any sink
+  pub put_decimal : Puts sink_dicts SinkMet (λ S (g, d). write_decimals_contracts.put_decimal.ended S g d)
+      write_decimals.put_decimal.Symbol.name write_decimals.put_decimal.Symbol.code (λ S g κs. κs.1.0)
+      (λ S (g, _) κs (_, (sink, _)). g.shows sink.now)
+      (λ S (g, _) κs (n, (sink, _)) (_, (left, _)) r. g.took (decimal n) sink.now left.now)
+  pub put_decoded : Puts sink_dicts SinkMet (λ S (g, d). percent_decode_contracts.put_decoded.ended S g d)
+      percent_decode.put_decoded.Symbol.name percent_decode.put_decoded.Symbol.code (λ S g κs. κs.1.1.0)
+      (λ S (g, _) κs (_, (sink, _)). g.shows sink.now)
+      (λ S (g, _) κs (s, (sink, _)) (_, (left, _)) r. g.took (decoded s.now) sink.now left.now)
+  pub put_encoded : Puts sink_dicts SinkMet (λ S (g, d). percent_encode_contracts.put_encoded.ended S g d)
+      percent_encode.put_encoded.Symbol.name percent_encode.put_encoded.Symbol.code (λ S g κs. κs.1.1.0)
+      (λ S (g, _) κs (_, (_, (sink, _))). g.shows sink.now)
+      (λ S (g, _) κs (set, (s, (sink, _))) (_, (_, (left, _))) r. g.took (encoded (sets.escapes set) s.now) sink.now left.now)
+  pub put_line : Puts coded_dicts CodedMet (λ S (g, (d, (h, e))). write_line_contracts.put_line.ended S g d h e)
+      write_line.put_line.Symbol.name write_line.put_line.Symbol.code (λ S g κs. κs.1.1.0)
+      (λ S (_, (_, (g, _))) κs (_, (_, (_, (_, (_, (sink, _)))))). g.shows sink.now)
+      (λ S (_, (_, (g, _))) κs (sheet, (start, (end, (strand, (phase, (sink, _)))))) (_, (_, (_, (_, (_, (left, _)))))) r.
+      (r ≡ is_some (sheet_read sheet.now)) × g.took (record_line sheet.now start end strand phase) sink.now left.now)
+  -- of a sheet: whether it has the form, how long its line is, and what its fields give
+  pub is_form : Gives write_line_contracts.is_form.ended write_line.is_form.Symbol.name write_line.is_form.Symbol.code
+      (λ _ (sheet, _). is_some (sheet_read sheet.now))
+  pub count_line : Gives write_line_contracts.count_line.ended write_line.count_line.Symbol.name write_line.count_line.Symbol.code
+      (λ _ (sheet, (start, (end, (strand, (phase, _))))). counted_line sheet.now start end strand phase)
+  pub fault : Gives write_measure_contracts.fault.ended write_measure.fault.Symbol.name write_measure.fault.Symbol.code
+      (λ _ (sheet, (start, (end, (strand, (phase, _))))). fault_of sheet.now start end strand phase)
   -- measures of such pieces
   pub decimal_len : Gives write_decimals_contracts.decimal_len.ended
       write_decimals.decimal_len.Symbol.name write_decimals.decimal_len.Symbol.code

@@ -3,3 +3,4 @@ pub mod Calls
 pub mod Does
 pub mod InC
 pub mod NoField
+pub mod Sinks

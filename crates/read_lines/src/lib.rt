@@ -32,7 +32,11 @@ impl Cursor {
 fn blank_at(text: &[u8], at: usize) -> bool
     ensures { result ≡ blank_at text.now at }
 {
-    matches!(text.get(at..), Some([b'\n', ..] | [b'\r', b'\n', ..]))
+    match text.get(at) {
+        Some(b'\n') => true,
+        Some(b'\r') => text.get(at + 1) == Some(&b'\n'),
+        _ => false,
+    }
 }
 
 // The place behind the blank lines that stand at a cursor, where a line begins or the text ends; a cursor beyond the text stays. Of a line

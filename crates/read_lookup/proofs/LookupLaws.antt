@@ -82,3 +82,7 @@ module _ (column fallback : List ℕ) where
   pub value_in : (tag : List ℕ) {r : Result (Option Place) Refusal} {k m : Option Place} → r ≡ find_tag column tag
       → k ≡ result_unwrap_or r None → k ≡ m → value_or column tag fallback ≡ or_else fallback (looked column (Ok m))
   value_in tag {r} e f g = value_by column tag fallback e refl ∙ or_absent r ∙ rw (← f, g) refl
+
+  -- so where it finds none
+  pub value_absent : (tag : List ℕ) → result_unwrap_or (find_tag column tag) None ≡ None → value_or column tag fallback ≡ fallback
+  value_absent tag e = value_in tag refl refl e

@@ -28,6 +28,7 @@ pub fn find_tag(column: &[u8], tag: &[u8]) -> Result<Option<Place>, Refusal>
 }
 
 // The raw value of a tag as a part of the column, or the fallback where the tag is absent or 5 comes first. `find_tag` says which.
+#[tactic(auto, using(crate::proofs::LookupLaws::value_absent))]
 pub fn value_or<'a>(column: &'a [u8], tag: &'a [u8], fallback: &'a [u8]) -> &'a [u8]
     ensures { result.now ≡ value_or column.now tag.now fallback.now }
 {

@@ -52,15 +52,19 @@ clear key faults e =
       some = g.0;
     }
 
--- so the key has no white space
+-- so the key is short and has no white space
 pub clear_key : (key : List ℕ) (value : Value) (first second : List ℕ) → refusal_of (directive_reasons key value first second) ≡ option.None
-    → Every (λ x. is_space x ≡ false) key
+    → (length key ≤ most_text) × Every (λ x. is_space x ≡ false) key
 unfolding directive_reasons version_reasons region_reasons build_reasons
 clear_key key value first second = by value
   where
-    by : (v : Value) → refusal_of (directive_reasons key v first second) ≡ option.None → Every (λ x. is_space x ≡ false) key
-    by None e = holds_none is_space key (clear _ _ e).inked_key
-    by Text e = holds_none is_space key (clear _ _ e).inked_key
-    by (Version v) e = holds_none is_space key (clear _ _ e).inked_key
-    by (Region start end) e = holds_none is_space key (clear _ _ e).inked_key
-    by Build e = holds_none is_space key (clear _ _ e).inked_key
+    of : {faults : Faults} → Clear key faults → (length key ≤ most_text) × Every (λ x. is_space x ≡ false) key
+    of c = (c.short_key, holds_none is_space key c.inked_key)
+
+    by : (v : Value) → refusal_of (directive_reasons key v first second) ≡ option.None
+        → (length key ≤ most_text) × Every (λ x. is_space x ≡ false) key
+    by None e = of (clear _ _ e)
+    by Text e = of (clear _ _ e)
+    by (Version v) e = of (clear _ _ e)
+    by (Region start end) e = of (clear _ _ e)
+    by Build e = of (clear _ _ e)

@@ -126,7 +126,7 @@ module _ (c : ℕ) (small : c < sp) (white : is_space c ≡ true) (digit : is_di
     (λ p. omega arith),
     (
       (λ p. omega arith),
-      both key (tail value first second) (inked_lacks key (clear_key key value first second e)) (tail_lacks key value first second e),
+      both key (tail value first second) (inked_lacks key (clear_key key value first second e).1) (tail_lacks key value first second e),
     ),
   )
 
@@ -137,7 +137,7 @@ module _ (key : List ℕ) (value : Value) (first second : List ℕ) (accepted : 
   directive_kind = kind_directive (key ++ tail value first second)
 
   pub directive_back : ReadsDirective (directive_line key value first second) key (value_text value first second)
-  directive_back = tail_back key value first second (clear_key key value first second accepted)
+  directive_back = tail_back key value first second (clear_key key value first second accepted).1
 
   pub typed_back : Sized value → Back value first second
   typed_back sized = value_back key value first second sized accepted

@@ -60,7 +60,8 @@ fn put_tail<S: Sink>(value: Value, first: &[u8], second: &[u8], sink: &mut S)
 fn put_directive<S: Sink>(key: &[u8], value: Value, first: &[u8], second: &[u8], sink: &mut S)
     ensures { S.took (directive_line key.now value first.now second.now) sink.old sink.new }
 {
-    sink.text(b"##");
+    sink.byte(b'#');
+    sink.byte(b'#');
     sink.text(key);
     put_tail(value, first, second, sink);
 }

@@ -21,6 +21,7 @@ pub(crate) struct Faults {
 }
 
 // The first reason to refuse a directive, by its key and the faults of its value.
+#[tactic(auto, unfolding(crate::specs::Judge::reasons, base_buffer::specs::Answer::unless))]
 pub(crate) fn refusal(key: &[u8], faults: Faults) -> Result<(), Refusal>
     ensures { result ≡ unless (refusal_of (reasons key.now faults)) tt }
 {

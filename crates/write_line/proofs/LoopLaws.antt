@@ -10,7 +10,7 @@ use Rattle.sheet_form.specs.Inner.Past.{Passes}
 use Rattle.sheet_form.proofs.PastLaws.{past_next, past_all}
 use Rattle.write_line.specs.Inner.Led.{led}
 
-module _ {S A : Type 0} {took : List ℕ → S → S → Type 0} (laws : SinkLaws took) (read : Reader A) (f : A → List ℕ) {s : List ℕ} where
+module _ {S A : Type 0} {took : List ℕ → S → S → Type 0} {shows : S → List ℕ × ℕ} (laws : SinkLaws took shows) (read : Reader A) (f : A → List ℕ) {s : List ℕ} where
   -- the first is taken, and then the others
   pub takes_more : (c left n from : ℕ) {b k : ℕ} {q r : Option ℕ} {p p₁ P : S} → left ≡ n + 1
       → Passes (λ a. took (b ∷ f a) p p₁) s q (read (drop from s)) → q ≡ Some k

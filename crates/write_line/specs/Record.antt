@@ -1,5 +1,5 @@
 -- A record as it is written: GFF3, Columns 1 to 9; RULES 8.2. Assumes nothing: these are definitions.
-use Rattle.std.specs.Prelude.{ℕ, List, [], ◌∷◌, Option, Some, None}
+use Rattle.std.specs.Prelude.{ℕ, List, [], ◌∷◌, Option, Some, None, ◌-◌, ◌^◌, min, length}
 use Rattle.base_lists.specs.Bytes.{dot}
 use Rattle.write_decimals.specs.Decimal.{decimal}
 use Rattle.percent_sets.specs.declared.Set.{Set}
@@ -41,3 +41,11 @@ module _ (encode : Set → List ℕ → List ℕ) where
 -- each text percent-encoded by its set
 unfoldable pub record_line : List ℕ → ℕ → ℕ → ℕ → ℕ → List ℕ
 record_line sheet start end strand phase = sheet_line (λ set. encoded (escapes set)) (sheet_read sheet) start end strand phase
+
+-- how long the line is, as far as a number goes; none of a text that is no sheet
+abbrev pub sheet_count : Option Sheet → List ℕ → Option ℕ
+sheet_count None line = None
+sheet_count (Some s) line = Some (min (length line) (2 ^ 64 - 1))
+
+abbrev pub counted_line : List ℕ → ℕ → ℕ → ℕ → ℕ → Option ℕ
+counted_line sheet start end strand phase = sheet_count (sheet_read sheet) (record_line sheet start end strand phase)

@@ -12,13 +12,16 @@ ghost use Rattle.sheet_form.specs.Reader.{times, counted};
 ghost use Rattle.sheet_form.specs.Sheet.{Sheet, section, read_attribute, read_sheet, sheet_read};
 ghost use Rattle.sheet_form.specs.Inner.Past.{Passes};
 ghost use Rattle.write_line.specs.Inner.Led.{led};
-ghost use Rattle.write_line.specs.Record.{score_column, sheet_line, record_line};
+ghost use Rattle.write_line.specs.Record.{score_column, sheet_line, record_line, counted_line};
 
-use base_sink::Sink;
+use base_sink::{Count, Nowhere, Sink};
 use percent_encode::Coded;
 use percent_sets::Set;
 
+// The pieces of a walk are compiled into it, so that a walk that keeps nothing is a few steps for each count of the sheet.
+
 // The section at `from`, encoded.
+#[inline(always)]
 fn put_text<S: Coded>(set: Set, sheet: &[u8], from: usize, sink: &mut S) -> Option<usize>
     ensures { Passes (λ t. S.took (encoded (escapes set) t) sink.old sink.new) sheet.now result (section (drop from sheet.now)) }
 {
@@ -28,6 +31,7 @@ fn put_text<S: Coded>(set: Set, sheet: &[u8], from: usize, sink: &mut S) -> Opti
 }
 
 // The same behind a byte.
+#[inline(always)]
 fn put_led<S: Coded>(lead: u8, set: Set, sheet: &[u8], from: usize, sink: &mut S) -> Option<usize>
     ensures { Passes (λ t. S.took (lead ∷ encoded (escapes set) t) sink.old sink.new) sheet.now result (section (drop from sheet.now)) }
 {
@@ -92,6 +96,7 @@ fn put_column<S: Coded>(sheet: &[u8], from: usize, sink: &mut S) -> Option<usize
 }
 
 // A number behind a tab.
+#[inline(always)]
 fn put_number<S: Sink>(n: u64, sink: &mut S)
     ensures { S.took (tab ∷ decimal n) sink.old sink.new }
 {
@@ -100,6 +105,7 @@ fn put_number<S: Sink>(n: u64, sink: &mut S)
 }
 
 // A byte behind a tab.
+#[inline(always)]
 fn put_sign<S: Sink>(sign: u8, sink: &mut S)
     ensures { S.took (tab ∷ sign ∷ []) sink.old sink.new }
 {
@@ -108,6 +114,7 @@ fn put_sign<S: Sink>(sign: u8, sink: &mut S)
 }
 
 // A score, or `.` where there is none.
+#[inline(always)]
 fn put_token<S: Sink>(token: &[u8], sink: &mut S)
     ensures { S.took (score_column token.now) sink.old sink.new }
 {
@@ -119,6 +126,7 @@ fn put_token<S: Sink>(token: &[u8], sink: &mut S)
 }
 
 // Column 6 and the tab before it.
+#[inline(always)]
 fn put_score<S: Sink>(sheet: &[u8], from: usize, sink: &mut S) -> Option<usize>
     ensures { Passes (λ t. S.took (tab ∷ score_column t) sink.old sink.new) sheet.now result (section (drop from sheet.now)) }
 {
@@ -151,10 +159,9 @@ fn put_columns<S: Coded>(
     put_column(sheet, attributes, sink)
 }
 
-// Strand and phase stay numbers here and in the writers over it, which refuse one above 3 in its place among the reasons (RULES 11.3).
-// Puts the line of a sheet and the numbers beside it into a sink, and answers whether the sheet has the form. Of one that has not, some
-// part of a line is put, or none.
-pub fn put_line<S: Coded>(
+// The line of a sheet and the numbers beside it, where the sheet has the form, which is answered. Of one that has not, some part of a line is
+// put, or none.
+fn put_as_far<S: Coded>(
     sheet: &[u8],
     start: u64,
     end: u64,
@@ -170,4 +177,44 @@ pub fn put_line<S: Coded>(
         Some(behind) => behind == sheet.len(),
         None => false,
     }
+}
+
+// Whether a sheet has the form. The texts are passed, and nothing is kept of them.
+pub fn is_form(sheet: &[u8]) -> bool
+    ensures { result ≡ is_some (sheet_read sheet.now) }
+{
+    put_as_far(sheet, 0, 0, 0, 0, &mut Nowhere)
+}
+
+// How long the line is, as far as a number goes, where the sheet has the form; else none. It is counted with positions of one digit, and
+// how many more digits the positions have needs no walk over them.
+pub fn count_line(sheet: &[u8], start: u64, end: u64, strand: u32, phase: u32) -> Option<usize>
+    ensures { result ≡ counted_line sheet.now start end strand phase }
+{
+    let mut count = Count { bytes: 0 };
+    if !put_as_far(sheet, 0, 0, strand, phase, &mut count) {
+        return None;
+    }
+    let digits = write_decimals::decimal_len(start) + write_decimals::decimal_len(end);
+    Some(count.bytes.saturating_add(digits - 2))
+}
+
+// Strand and phase stay numbers here and in the writers over it, which refuse one above 3 in its place among the reasons (RULES 11.3).
+// Puts the line of a sheet and the numbers beside it into a sink, and answers whether the sheet has the form. Of one that has not, nothing
+// is put.
+pub fn put_line<S: Coded>(
+    sheet: &[u8],
+    start: u64,
+    end: u64,
+    strand: u32,
+    phase: u32,
+    sink: &mut S,
+) -> bool
+    ensures form { result ≡ is_some (sheet_read sheet.now) }
+    ensures line { S.took (record_line sheet.now start end strand phase) sink.old sink.new }
+{
+    if !is_form(sheet) {
+        return false;
+    }
+    put_as_far(sheet, start, end, strand, phase, sink)
 }

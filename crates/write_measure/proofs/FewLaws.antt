@@ -21,7 +21,7 @@ use Rattle.sheet_form.proofs.SheetLaws.{of_read}
 use Rattle.write_line.specs.Inner.Led.{led}
 use Rattle.write_measure.specs.Record.{score_column, record_line}
 use Rattle.write_line.proofs.LedLaws.{led_prefixed, led_column}
-use Rattle.write_measure.proofs.LineLaws.{length_line}
+use Rattle.write_line.proofs.LineLaws.{length_line}
 
 -- texts with a byte before each, by what each of them is on the sheet
 led_few : {A : Type 0} (f w : A → List ℕ) → ((a : A) → 1 + length (f a) ≤ 3 * length (w a)) → (b c : ℕ) (l : List A)

@@ -1,4 +1,3 @@
 pub mod FewLaws
 pub mod MeasuredLaws
-mod LineLaws
 mod Unique

@@ -3,7 +3,7 @@ use Prim.Native.Nat.{ℕ, ◌≤◌}
 use mathlib.Core.Path.{◌≡◌, refl, sym}
 use mathlib.Core.Bool.{true, false, true≢false}
 use Rattle.std.specs.Prelude.{Option, Some, None, is_some}
-use mathlib.Core.List.{List}
+use mathlib.Core.List.{List, []}
 use lib.Dec.{ltb}
 use lib.ListN.{length}
 use borrow.Author.Tests.{ltb-false, not-false}
@@ -11,7 +11,10 @@ use Rattle.base_lists.specs.Limits.{most_text}
 use Rattle.base_buffer.specs.Answer.{refusal_of}
 use Rattle.base_buffer.proofs.AnswerLaws.{none_holds}
 use Rattle.sheet_form.specs.Sheet.{Sheet, sheet_read}
-use Rattle.write_measure.specs.Record.{faults, fault_reasons, record_reasons}
+use Rattle.base_refusals.specs.declared.Refusal.TheVariants as refusal
+use Rattle.percent_coding.specs.Percent.{encoded}
+use Rattle.percent_sets.specs.Sets.{escapes}
+use Rattle.write_measure.specs.Record.{faults, fault_reasons, record_reasons, record_line, sheet_line}
 
 -- a sheet that has the form is one
 pub got : (m : Option Sheet) → is_some m ≡ true → (s : Sheet) × (m ≡ Some s)
@@ -32,3 +35,13 @@ pub found : (sheet : List ℕ) (start end strand phase : ℕ) (s : Sheet) → lt
     → refusal_of (fault_reasons (faults (Some s) start end strand phase)) ≡ refusal_of (record_reasons sheet start end strand phase)
 unfolding record_reasons
 found sheet start end strand phase s h e = rw (h, e)
+
+-- of a sheet that is not too long and has not the form, that is the first reason, and its line is empty
+pub no_form : (sheet : List ℕ) (start end strand phase : ℕ) → ltb most_text (length sheet) ≡ false → is_some (sheet_read sheet) ≡ false
+    → (refusal_of (record_reasons sheet start end strand phase) ≡ Some refusal.Sheet) × (record_line sheet start end strand phase ≡ [])
+unfolding record_reasons record_line
+no_form sheet start end strand phase h e = (rw (h, e), empty (sheet_read sheet) e)
+  where
+    empty : (o : Option Sheet) → is_some o ≡ false → sheet_line (λ set. encoded (escapes set)) o start end strand phase ≡ []
+    empty None f = refl
+    empty (Some s) f = absurd (true≢false f)

@@ -1,5 +1,5 @@
 -- A record as it is written: GFF3, Columns 1 to 9; RULES 8.2, 11.3. Assumes nothing: these are definitions.
-use Rattle.std.specs.Prelude.{ℕ, Bool, false, not, ◌&&◌, ◌||◌, Result, List, [], ◌∷◌, eqb, ltb, length, Option, Some, None, is_some}
+use Rattle.std.specs.Prelude.{ℕ, Bool, false, not, ◌&&◌, ◌||◌, Result, Err, List, [], ◌∷◌, eqb, ltb, length, Option, Some, None, is_some}
 use Rattle.base_lists.specs.Bytes.{ascii}
 use Rattle.base_lists.specs.Limits.{most_text}
 use Rattle.base_words.specs.Same.{same}
@@ -7,6 +7,9 @@ use Rattle.base_refusals.specs.declared.Refusal.{Refusal}
 use Rattle.base_refusals.specs.declared.Refusal.TheVariants as refusal
 use Rattle.base_buffer.specs.Answer.{Reason, ◌when◌, refusal_of, unless}
 use Rattle.read_score.specs.Score.{is_score}
+use Rattle.base_scan.specs.declared.place.Place.{Place}
+use Rattle.base_scan.specs.Part.{text_at}
+use Rattle.sheet_form.specs.Cursor.{section_at}
 use Rattle.sheet_form.specs.Sheet.{Sheet, sheet_read}
 pub use Rattle.write_line.specs.Record.{sheet_line}
 unfoldable pub use Rattle.write_line.specs.Record.{score_column, columns, record_line}
@@ -52,6 +55,39 @@ fault_reasons f =
     ∷ (refusal.Phase when f.phase)
     ∷ (refusal.PhaseMissing when f.cds)
     ∷ []
+
+-- the section behind another
+abbrev pub section_behind : List ℕ → Option Place → Option Place
+section_behind sheet None = None
+section_behind sheet (Some place) = section_at sheet place.end
+
+abbrev pub two_places : Option Place → Option Place → Option (Place × Place)
+two_places (Some a) (Some b) = Some (a, b)
+two_places (Some a) None = None
+two_places None b = None
+
+-- where a text has the third and the fourth section of a sheet, its type and its score
+abbrev pub places_of : List ℕ → Option (Place × Place)
+places_of sheet =
+    let type = section_behind sheet (section_behind sheet (section_at sheet 0)) in
+    two_places type (section_behind sheet type)
+
+-- the same reasons by these two, whatever stands behind them
+abbrev pub fault_at : List ℕ → Option (Place × Place) → ℕ → ℕ → ℕ → ℕ → Result (Unit {0}) Refusal
+fault_at sheet None start end strand phase = Err refusal.Sheet
+fault_at sheet (Some (type, score)) start end strand phase =
+    unless
+    (refusal_of (fault_reasons (record {
+      position = eqb start 0 || eqb end 0;
+      score = bad (text_at score sheet);
+      strand = ltb 3 strand;
+      phase = ltb 3 phase;
+      cds = same (text_at type sheet) (ascii "CDS") && eqb phase 3;
+    })))
+    tt
+
+abbrev pub fault_of : List ℕ → ℕ → ℕ → ℕ → ℕ → Result (Unit {0}) Refusal
+fault_of sheet start end strand phase = fault_at sheet (places_of sheet) start end strand phase
 
 -- "24, 23" before them
 unfoldable pub record_reasons : List ℕ → ℕ → ℕ → ℕ → ℕ → List Reason

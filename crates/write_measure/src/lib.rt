@@ -10,3 +10,4 @@ mod measuring;
 mod reasons;
 
 pub use measuring::{measure, refusal};
+pub use reasons::fault;

@@ -6,7 +6,6 @@ ghost use Rattle.sheet_form.specs.Sheet.{sheet_read};
 ghost use Rattle.write_measure.specs.Record.{record_reasons, measured};
 
 use base_refusals::Refusal;
-use base_sink::{Count, Nowhere};
 
 // The first reason to refuse a sheet that is not too long and has the form, or has not.
 fn refusal_behind(
@@ -23,7 +22,7 @@ fn refusal_behind(
     if !form {
         return Err(Refusal::Sheet);
     }
-    super::reasons::field_refusal(sheet, start, end, strand, phase)
+    super::reasons::fault(sheet, start, end, strand, phase)
 }
 
 // The first reason to refuse a record: as `measure`, and no text is measured.
@@ -33,7 +32,7 @@ pub fn refusal(sheet: &[u8], start: u64, end: u64, strand: u32, phase: u32) -> R
     if base_buffer::MOST_TEXT < sheet.len() {
         return Err(Refusal::TooLong);
     }
-    let form = write_line::put_line(sheet, start, end, strand, phase, &mut Nowhere);
+    let form = write_line::is_form(sheet);
     refusal_behind(form, sheet, start, end, strand, phase)
 }
 
@@ -52,8 +51,7 @@ pub fn measure(
     if base_buffer::MOST_TEXT < sheet.len() {
         return Err(Refusal::TooLong);
     }
-    let mut count = Count { bytes: 0 };
-    let form = write_line::put_line(sheet, start, end, strand, phase, &mut count);
-    refusal_behind(form, sheet, start, end, strand, phase)?;
-    Ok(count.bytes)
+    let counted = write_line::count_line(sheet, start, end, strand, phase);
+    refusal_behind(counted.is_some(), sheet, start, end, strand, phase)?;
+    Ok(counted.unwrap_or(0))
 }

@@ -3,7 +3,7 @@ ghost use Rattle.std.specs.Prelude.{◌≡◌, Some, IsSomeAnd};
 ghost use Rattle.base_scan.specs.Part.{text_at};
 ghost use Rattle.base_buffer.specs.Answer.{refusal_of, unless};
 ghost use Rattle.sheet_form.specs.Sheet.{Sheet, sheet_read};
-ghost use Rattle.write_measure.specs.Record.{bad, faults, fault_reasons};
+ghost use Rattle.write_measure.specs.Record.{bad, places_of, faults, fault_reasons, fault_of};
 
 use base_refusals::Refusal;
 use base_scan::Place;
@@ -25,7 +25,8 @@ struct Faults {
 
 // Where a sheet has its type and its score. None where it breaks off before.
 fn type_and_score(sheet: &[u8]) -> Option<(Place, Place)>
-    ensures { (s : Sheet) → sheet_read sheet.now ≡ Some s →
+    ensures places { result ≡ places_of sheet.now }
+    ensures read { (s : Sheet) → sheet_read sheet.now ≡ Some s →
         IsSomeAnd result (λ p. (text_at p.0 sheet.now ≡ s.type) × (text_at p.1 sheet.now ≡ s.score)) }
 {
     let name = sheet_form::section_at(sheet, 0)?;
@@ -64,15 +65,10 @@ fn first_fault(faults: Faults) -> Result<(), Refusal>
     Ok(())
 }
 
-// The first reason that a sheet and its numbers give.
-pub(crate) fn field_refusal(
-    sheet: &[u8],
-    start: u64,
-    end: u64,
-    strand: u32,
-    phase: u32,
-) -> Result<(), Refusal>
-    ensures { (s : Sheet) → sheet_read sheet.now ≡ Some s →
+// The first reason that a sheet's type and score and the numbers give, whatever stands behind the score; 23 where it breaks off before.
+pub fn fault(sheet: &[u8], start: u64, end: u64, strand: u32, phase: u32) -> Result<(), Refusal>
+    ensures told { result ≡ fault_of sheet.now start end strand phase }
+    ensures met { (s : Sheet) → sheet_read sheet.now ≡ Some s →
         result ≡ unless (refusal_of (fault_reasons (faults (Some s) start end strand phase))) tt }
 {
     let Some((ty, score)) = type_and_score(sheet) else {

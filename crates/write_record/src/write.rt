@@ -4,11 +4,11 @@ ghost use Rattle.base_buffer.specs.Answer.{Wrote};
 ghost use Rattle.write_measure.specs.Record.{record_reasons, record_line};
 
 use base_buffer::WriteError;
+use base_refusals::Refusal;
 use base_sink::Page;
 
-// Writes a record where three bytes for each of the sheet's fit, as most callers have them: the line fits, too, so nothing is measured, and
-// the place behind it is its length.
-fn write_at_once(
+// Writes a record that something is amiss with: the first reason is told. Three bytes for each of the sheet's fit, so the line would, too.
+fn write_judged(
     sheet: &[u8],
     start: u64,
     end: u64,
@@ -23,6 +23,34 @@ fn write_at_once(
     write_measure::refusal(sheet, start, end, strand, phase)?;
     let mut page = Page { out, at: 0 };
     write_line::put_line(sheet, start, end, strand, phase, &mut page);
+    Ok(page.at)
+}
+
+// Writes a record where three bytes for each of the sheet's fit, as most callers have them: the line fits, too, so nothing is measured, and
+// the place behind it is its length. Whether the sheet has the form `put_line` tells, before it puts anything, and where it has, the type,
+// the score and the numbers were all that could be amiss: so the sheet is not judged first, which would be a walk more.
+fn write_at_once(
+    sheet: &[u8],
+    start: u64,
+    end: u64,
+    strand: u32,
+    phase: u32,
+    out: &mut [u8],
+) -> Result<usize, WriteError>
+    requires { 3 * length sheet.now ≤ length out.old }
+    ensures { Wrote (record_reasons sheet.now start end strand phase)
+        (record_line sheet.now start end strand phase) out.old out.new result }
+{
+    if base_buffer::MOST_TEXT < sheet.len() {
+        return Err(WriteError::Refused(Refusal::TooLong));
+    }
+    let Ok(()) = write_measure::fault(sheet, start, end, strand, phase) else {
+        return write_judged(sheet, start, end, strand, phase, out);
+    };
+    let mut page = Page { out, at: 0 };
+    if !write_line::put_line(sheet, start, end, strand, phase, &mut page) {
+        return Err(WriteError::Refused(Refusal::Sheet));
+    }
     Ok(page.at)
 }
 

@@ -4,6 +4,3 @@ use Rattle.read_lookup.proofs.value_or.Goals as goal
 
 pub returns-in-Some : goal.returns-in-Some
 returns-in-Some c = rw (value_in _ _ _ c.find_tag.ensures c.unwrap_or.ensures c.in-Some.is) c.text.ensures
-
-pub returns-in-None : goal.returns-in-None
-returns-in-None c = rw (value_in _ _ _ c.find_tag.ensures c.unwrap_or.ensures c.in-None.is)

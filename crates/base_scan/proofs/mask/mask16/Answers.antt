@@ -1,24 +1,46 @@
 -- `mask16`: the digits of the vector's comparison. Assumes nothing.
-use Rattle.std.proofs.Common.{◌≡◌, ℕ, ◌+◌, ◌^◌, ◌≤◌, ◌<◌, List, arith, length, take, drop, length-drop}
-use lib.Seq.{length-take-le}
+use Rattle.std.proofs.Common.{◌≡◌, ℕ, ◌+◌, ◌-◌, ◌^◌, ◌%◌, ◌≤◌, ◌<◌, List, cond, eqb, arith, length, take, drop, length-drop, refl}
+use mathlib.Core.List.{map}
+use lib.Lanes.{mask_l, top, zip2}
+use lib.Seq.{length-take-le, take_all}
+use mir.Syntax.{w8, w32}
+use mir.Val.{bits, hbits, Fits}
+use Rattle.std.specs.Prelude.{replicate}
 use Rattle.base_scan.specs.Mask.{mask}
 use Rattle.base_scan.proofs.MaskLaws.{mask_lanes, mask_fits}
 use Rattle.base_scan.proofs.mask.mask16.Goals as goal
 
-module _ (b at : ℕ) (s : List ℕ) (inside : at + 16 ≤ length s) where
+-- what the library makes of a vector that is compared with b
+abbrev digits : ℕ → List ℕ → ℕ
+digits b xs = mask_l (map (top (hbits w8)) (zip2 (λ x y. cond (eqb x y) (2 ^ bits w8 - 1) 0) xs (replicate 16 b))) % 2 ^ 64
+
+-- the bytes from `at` on, in the two ways in which a slice from there on is told
+here : (p at : ℕ) (s : List ℕ) → p ≡ at → take 16 (drop p s) ≡ take 16 (drop at s)
+here p at s e = rw e refl
+
+behind : (p at : ℕ) (s : List ℕ) → p ≡ at → take 16 (take (length s - p) (drop p s)) ≡ take 16 (drop at s)
+behind p at s e = rw (take_all (length s - p) (drop p s) (simp length-drop (omega arith)), e) refl
+
+-- so of a window
+module _ (b at : ℕ) (s xs : List ℕ) (inside : at + 16 ≤ length s) (e : take 16 xs ≡ take 16 (drop at s)) where
   long : length (take 16 (drop at s)) ≡ 16
   long = length-take-le 16 (drop at s) (simp length-drop (omega arith))
 
-  few : mask b (take 16 (drop at s)) < 2 ^ 16
-  few = mask_fits b 16 (take 16 (drop at s)) (omega (arith, long))
+  read : digits b (take 16 xs) ≡ mask b (take 16 (drop at s))
+  read = rw e (mask_lanes b 16 _ long (omega arith))
+
+  narrow : digits b (take 16 xs) < 2 ^ 16
+  narrow = rw read (mask_fits b 16 (take 16 (drop at s)) (omega (arith, long)))
+
+  fits : Fits w32 (digits b (take 16 xs))
+  fits = omega (arith, narrow)
 
 pub overflow_cast-result : goal.overflow_cast-result
-overflow_cast-result c =
-    let a = c.args in
-    rw (mask_lanes a.b 16 _ (long a.b a.at a.s.now c.requires) (omega arith)) (omega (arith, few a.b a.at a.s.now c.requires))
+overflow_cast-result c = let a = c.args in fits a.b a.at a.s.now _ c.requires (omega (arith, here, behind))
 
 pub returns : goal.returns
 returns c =
-    let a = c.args in
-    let e = mask_lanes a.b 16 _ (long a.b a.at a.s.now c.requires) (omega arith) in
-    (e, rw e (omega (arith, few a.b a.at a.s.now c.requires)))
+    let a = c.args in (
+      read a.b a.at a.s.now _ c.requires (omega (arith, here, behind)),
+      narrow a.b a.at a.s.now _ c.requires (omega (arith, here, behind)),
+    )

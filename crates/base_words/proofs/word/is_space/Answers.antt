@@ -1,9 +1,8 @@
 -- `is_space` answers `is_space`. Assumes nothing.
-use Rattle.std.proofs.Common.{arith}
-use Rattle.std.proofs.lemmas.Bool.Decides.{nat_tests}
+use mathlib.Core.Bool.{or_assoc, or-false}
 use Rattle.base_words.specs.Word.{is_space}
 use Rattle.base_words.proofs.word.is_space.Goals as goal
 
 pub returns : goal.returns
 unfolding is_space
-returns c = grind (arith, nat_tests, c.is_ascii_whitespace.ensures.value)
+returns c = simp (or_assoc, or-false)

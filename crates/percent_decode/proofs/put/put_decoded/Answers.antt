@@ -12,11 +12,11 @@ loop-i-preserved-then-s-i-eq37 g c =
 
 -- a run, up to the next percent sign
 pub loop-i-smaller : goal.loop-i-smaller
-loop-i-smaller g c = omega (arith, run_further _ _ _ c.loop-i-test.true c.if-s-i-eq37.false c.find-sign.ensures.first)
+loop-i-smaller g c = omega (arith, run_further _ _ _ c.loop-i-test.true c.if-s-i-eq37.false c.next_sign-sign.ensures.first)
 
 pub loop-i-preserved : goal.loop-i-preserved
 loop-i-preserved g c =
-    let itself = decoded_run c.loop-i.i _ c.args.s.now c.loop-i-test.true c.if-s-i-eq37.false c.find-sign.ensures.first in
+    let itself = decoded_run c.loop-i.i _ c.args.s.now c.loop-i-test.true c.if-s-i-eq37.false c.next_sign-sign.ensures.first in
     (omega arith, still_less g.S.Sink.laws (rw itself at c.loop-i.invariant.1) (rw c.part.ensures at c.text.ensures))
 
 pub returns : goal.returns

@@ -4,4 +4,4 @@ use Rattle.write_directive.proofs.directive.put_directive.Goals as goal
 pub returns : goal.returns
 returns g c =
     let joins = g.S.Sink.laws.joins in
-    joins _ _ _ _ _ c.text.ensures (joins _ _ _ _ _ c.text-2.ensures c.put_tail.ensures)
+    joins _ _ _ _ _ c.byte.ensures (joins _ _ _ _ _ c.byte-2.ensures (joins _ _ _ _ _ c.text.ensures c.put_tail.ensures))

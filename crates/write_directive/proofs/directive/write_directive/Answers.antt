@@ -29,9 +29,9 @@ returns-in_err-refusal c =
     rw (p.1, p.2) (wrote_refused (unless_not _ c.refusal.ensures c.in_err-refusal.was))
 
 pub returns-then-out-need : goal.returns-then-out-need
-returns-then-out-need c = let k = counted (goal.at.returns-then-out-need c).After-put_directive in wrote_no_room k.0 k.1 c.if-out-need.true
+returns-then-out-need c = let k = counted (goal.at.returns-then-out-need c).After-put_directive in wrote_no_room k.0 (omega (arith, k.1)) c.if-out-need.true
 
 pub returns : goal.returns
 returns c =
     let k = counted (goal.at.returns c).After-put_directive in
-    wrote_done k.0 k.1 c.if-out-need.false (page_lays refl c.put_directive-2.ensures (search rules))
+    wrote_done k.0 (omega (arith, k.1)) c.if-out-need.false (page_lays refl c.put_directive-2.ensures (search rules))

@@ -1,6 +1,7 @@
 -- `measure`: the first reason that holds, or the length. Assumes nothing.
 use native.Mathlib.Omega.{arith}
 use mathlib.Core.Path.{◌≡◌}
+use Prim.Native.Nat.{◌-◌, ◌^◌, min}
 use lib.ListN.{length}
 use borrow.Author.Tests.{lt-ltb}
 use Rattle.std.proofs.lemmas.Result.{err_from_is_err_and}
@@ -16,9 +17,6 @@ pub returns-then-sheet-gt-MOST_TEXT : goal.returns-then-sheet-gt-MOST_TEXT
 unfolding record_reasons unless
 returns-then-sheet-gt-MOST_TEXT c = rw (lt-ltb _ _ c.if-sheet-gt-MOST_TEXT.true)
 
-pub refusal_behind-requires : goal.refusal_behind-requires
-refusal_behind-requires c = (c.if-sheet-gt-MOST_TEXT.false, c.put_line-form.ensures.form)
-
 pub returns-in_err-refusal_behind : goal.returns-in_err-refusal_behind
 unfolding unless
 returns-in_err-refusal_behind c =
@@ -33,6 +31,8 @@ returns c =
     let form = (taken _ _ _ _ _ none).1 in
     let bytes = all_bytes a.sheet.now (λ i. omega (arith, c.type_inv.sheet i)) in
     let few = line_few a.sheet.now a.start a.end a.strand a.phase form.0 bytes (omega arith) (omega arith) form.1 in
-    let counted : c.put_line-form.new.sink.bytes ≡ length (record_line a.sheet.now a.start a.end a.strand a.phase)
-    = omega (arith, c.put_line-form.ensures.line form.0 form.1, few, c.if-sheet-gt-MOST_TEXT.false) in
-    rw (none, counted)
+    let counted : c.unwrap_or.result ≡ min (length (record_line a.sheet.now a.start a.end a.strand a.phase)) (2 ^ 64 - 1)
+    = rw (c.count_line-counted.ensures, form.1) at c.unwrap_or.ensures in
+    let all : c.unwrap_or.result ≡ length (record_line a.sheet.now a.start a.end a.strand a.phase)
+    = omega (arith, counted, few, c.if-sheet-gt-MOST_TEXT.false) in
+    rw (none, all)

@@ -9,7 +9,7 @@ unfolding record_reasons unless
 returns-then-sheet-gt-MOST_TEXT c = rw (lt-ltb _ _ c.if-sheet-gt-MOST_TEXT.true)
 
 pub refusal_behind-requires : goal.refusal_behind-requires
-refusal_behind-requires c = (c.if-sheet-gt-MOST_TEXT.false, c.put_line-form.ensures.form)
+refusal_behind-requires c = (c.if-sheet-gt-MOST_TEXT.false, c.is_form-form.ensures)
 
 pub returns : goal.returns
 returns c = c.refusal_behind.ensures

@@ -13,4 +13,4 @@ returns-then-not-form c = rw (le-ltb _ _ c.requires.0, ← c.requires.1, c.if-no
 pub returns : goal.returns
 returns c =
     let g = got _ (sym c.requires.1 ∙ c.if-not-form.false) in
-    c.field_refusal.ensures g.0 g.1 ∙ rw (found _ _ _ _ _ g.0 (le-ltb _ _ c.requires.0) g.1)
+    c.fault.ensures.met g.0 g.1 ∙ rw (found _ _ _ _ _ g.0 (le-ltb _ _ c.requires.0) g.1)

@@ -7,29 +7,29 @@ use Rattle.sheet_form.proofs.PastLaws.{past_then, past_stop, past_whole, texts_r
 use Rattle.write_line.proofs.PassLaws.{passes_section, passes_none}
 use Rattle.write_measure.proofs.reasons.type_and_score.Goals as goal
 
-pub returns-in_err-name : goal.returns-in_err-name
+pub returns-in_err-name-clause-read : goal.returns-in_err-name-clause-read
 unfolding read_sheet
-returns-in_err-name c s e =
+returns-in_err-name-clause-read c s e =
     absurd (past_whole {P = λ x. ⊥} {s = c.args.sheet.now} (past_stop _ (passes_none {P = λ t. ⊥} (section_meets _ _ c.section_at.ensures c.in_err-name.was)) refl) s e)
 
-pub returns-in_err-source : goal.returns-in_err-source
+pub returns-in_err-source-clause-read : goal.returns-in_err-source-clause-read
 unfolding read_sheet
-returns-in_err-source c s e =
+returns-in_err-source-clause-read c s e =
     let name = passes_section {P = λ t. Unit {0}} (section_meets _ _ c.section_at.ensures c.in_ok-name.was) tt in
     let source = passes_none {P = λ t. ⊥} (section_meets _ _ c.section_at-2.ensures c.in_err-source.was) in
     absurd (past_whole {P = λ x. ⊥} {s = c.args.sheet.now} (past_then _ name refl (λ n x. past_stop _ source refl)) s e)
 
-pub returns-in_err-ty : goal.returns-in_err-ty
+pub returns-in_err-ty-clause-read : goal.returns-in_err-ty-clause-read
 unfolding read_sheet
-returns-in_err-ty c s e =
+returns-in_err-ty-clause-read c s e =
     let name = passes_section {P = λ t. Unit {0}} (section_meets _ _ c.section_at.ensures c.in_ok-name.was) tt in
     let source = passes_section {P = λ t. Unit {0}} (section_meets _ _ c.section_at-2.ensures c.in_ok-source.was) tt in
     let ty = passes_none {P = λ t. ⊥} (section_meets _ _ c.section_at-3.ensures c.in_err-ty.was) in
     absurd (past_whole {P = λ x. ⊥} {s = c.args.sheet.now} (past_then _ name refl (λ n x. past_then _ source refl (λ o y. past_stop _ ty refl))) s e)
 
-pub returns-in_err-score : goal.returns-in_err-score
+pub returns-in_err-score-clause-read : goal.returns-in_err-score-clause-read
 unfolding read_sheet
-returns-in_err-score c s e =
+returns-in_err-score-clause-read c s e =
     let name = passes_section {P = λ t. Unit {0}} (section_meets _ _ c.section_at.ensures c.in_ok-name.was) tt in
     let source = passes_section {P = λ t. Unit {0}} (section_meets _ _ c.section_at-2.ensures c.in_ok-source.was) tt in
     let ty = passes_section {P = λ t. Unit {0}} (section_meets _ _ c.section_at-3.ensures c.in_ok-ty.was) tt in
@@ -37,8 +37,8 @@ returns-in_err-score c s e =
     absurd (past_whole {P = λ x. ⊥} {s = c.args.sheet.now} (past_then _ name refl (λ n x. past_then _ source refl
     (λ o y. past_then _ ty refl (λ t z. past_stop _ score refl)))) s e)
 
-pub returns : goal.returns
-returns c s e =
+pub returns-clause-read : goal.returns-clause-read
+returns-clause-read c s e =
     let text = c.args.sheet.now in
     let name = passes_section {P = λ t. Unit {0}} (section_meets _ _ c.section_at.ensures c.in_ok-name.was) tt in
     let source = passes_section {P = λ t. Unit {0}} (section_meets _ _ c.section_at-2.ensures c.in_ok-source.was) tt in

@@ -7,7 +7,6 @@ use Rattle.base_buffer.proofs.AnswerLaws.{unless_is, unless_not, wrote_refused, 
 use borrow.Author.Rules.{rules}
 use Rattle.base_sink.proofs.PageLaws.{page_lays}
 use Rattle.write_measure.specs.Record.{record_reasons, record_line}
-use Rattle.write_measure.proofs.MeasuredLaws.{taken}
 use Rattle.write_record.proofs.write.write_record.Goals as goal
 use Rattle.write_record.proofs.write.write_record.Goals.{In_ok-need}
 
@@ -32,5 +31,4 @@ returns-then-out-need c = let k = accepted (goal.at.returns-then-out-need c).In_
 pub returns : goal.returns
 returns c =
     let k = accepted (goal.at.returns c).In_ok-need in
-    let form = (taken _ _ _ _ _ k.0).1 in
-    wrote_done k.0 k.1 c.if-out-need.false (page_lays refl (c.put_line.ensures.line form.0 form.1) (search rules))
+    wrote_done k.0 k.1 c.if-out-need.false (page_lays refl c.put_line.ensures.line (search rules))
