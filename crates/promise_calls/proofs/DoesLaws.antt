@@ -60,18 +60,18 @@ module _ {T : Ended} {name : Callee} {code : Code} {A : Lifetimes T → Type 0} 
 
 module _ {G : RattleType → Type 1} (dicts : (S : RattleType) → G S → Dicts)
     (Has : (M : Type 1) (𝓤 : Ura M) (𝓛 : Logic 𝓤) (𝓜 : Model 𝓤 𝓛.H) (𝓡 : Running 𝓤 𝓛.H 𝓜) → Env → (S : RattleType) → G S → Type 2)
-    (T : (S : RattleType) → G S → Ended) (name : Generics → Callee) (code : Code) (lent : (S : RattleType) (g : G S) → Lifetimes (T S g) → Lft) where
+    (T : (S : RattleType) → G S → Ended) (name : Generics → Callee) (code : Code) (life : (S : RattleType) (g : G S) → Lifetimes (T S g) → Lft) where
   -- as `less`, of every type that has the trait
   less_over : (Q R : (S : RattleType) (g : G S) → Promise (T S g))
       → ((S : RattleType) (g : G S) (M : Type 1) (𝓤 : Ura M) (κs : Lifetimes (T S g)) (a : Arguments (T S g) κs) (b : Left (T S g) κs)
       (r : Answer (T S g) κs) → ent 𝓤 (Q S g M 𝓤 κs a b r) (R S g M 𝓤 κs a b r))
-      → MeetingOver dicts Has T name code lent Q → MeetingOver dicts Has T name code lent R
+      → MeetingOver dicts Has T name code life Q → MeetingOver dicts Has T name code life R
   less_over Q R h met M 𝓤 𝓛 𝓜 𝓡 wired S l g has =
       let callee = name (bounded (a_type ∷ []) (S, tt {1}) (dicts S g)) in
       weaken 𝓛 (T S g)
       (λ κs a. record {
         ghost = Unit {0};
-        requires = λ i. sep 𝓤 (fact 𝓤 (lent S g κs ⊑ S.lives)) (emp 𝓤);
+        requires = λ i. sep 𝓤 (fact 𝓤 (life S g κs ⊑ S.lives)) (emp 𝓤);
         ensures = λ i r b. Q S g M 𝓤 κs a b r;
       })
       (λ κs a i r b. R S g M 𝓤 κs a b r)
@@ -82,8 +82,8 @@ module _ {G : RattleType → Type 1} (dicts : (S : RattleType) → G S → Dicts
 
   -- two clauses are one
   as_one : (P Q : (S : RattleType) (g : G S) → Clause (T S g))
-      → MeetingOver dicts Has T name code lent (λ S g M 𝓤 κs a b r. sep 𝓤 (fact 𝓤 (P S g κs a b r)) (fact 𝓤 (Q S g κs a b r)))
-      → MeetingOver dicts Has T name code lent (λ S g M 𝓤 κs a b r. fact 𝓤 (P S g κs a b r × Q S g κs a b r))
+      → MeetingOver dicts Has T name code life (λ S g M 𝓤 κs a b r. sep 𝓤 (fact 𝓤 (P S g κs a b r)) (fact 𝓤 (Q S g κs a b r)))
+      → MeetingOver dicts Has T name code life (λ S g M 𝓤 κs a b r. fact 𝓤 (P S g κs a b r × Q S g κs a b r))
   as_one P Q =
       less_over (λ S g M 𝓤 κs a b r. sep 𝓤 (fact 𝓤 (P S g κs a b r)) (fact 𝓤 (Q S g κs a b r)))
       (λ S g M 𝓤 κs a b r. fact 𝓤 (P S g κs a b r × Q S g κs a b r))
@@ -95,12 +95,12 @@ module _ {G : RattleType → Type 1} (dicts : (S : RattleType) → G S → Dicts
 
 module _ {G : RattleType → Type 1} {dicts : (S : RattleType) → G S → Dicts}
     {Has : (M : Type 1) (𝓤 : Ura M) (𝓛 : Logic 𝓤) (𝓜 : Model 𝓤 𝓛.H) (𝓡 : Running 𝓤 𝓛.H 𝓜) → Env → (S : RattleType) → G S → Type 2}
-    {T : (S : RattleType) → G S → Ended} {name : Generics → Callee} {code : Code} {lent : (S : RattleType) (g : G S) → Lifetimes (T S g) → Lft}
+    {T : (S : RattleType) → G S → Ended} {name : Generics → Callee} {code : Code} {life : (S : RattleType) (g : G S) → Lifetimes (T S g) → Lft}
     {shows : (S : RattleType) (g : G S) (κs : Lifetimes (T S g)) → Left (T S g) κs → List ℕ × ℕ} where
   -- the contract has two clauses, and says no more
   pub both : (P Q : (S : RattleType) (g : G S) → Clause (T S g))
-      → MeetingOver dicts Has T name code lent (λ S g M 𝓤 κs a b r. sep 𝓤 (fact 𝓤 (P S g κs a b r)) (fact 𝓤 (Q S g κs a b r)))
+      → MeetingOver dicts Has T name code life (λ S g M 𝓤 κs a b r. sep 𝓤 (fact 𝓤 (P S g κs a b r)) (fact 𝓤 (Q S g κs a b r)))
       → ((S : RattleType) (g : G S) (κs : Lifetimes (T S g)) (a : Arguments (T S g) κs) (b b' : Left (T S g) κs) (r r' : Answer (T S g) κs)
       → P S g κs a b r × Q S g κs a b r → P S g κs a b' r' × Q S g κs a b' r' → (r ≡ r') × (shows S g κs b ≡ shows S g κs b'))
-      → Puts dicts Has T name code lent shows (λ S g κs a b r. P S g κs a b r × Q S g κs a b r)
-  both P Q met one = record { does = as_one dicts Has T name code lent P Q met; one = λ {S} {g} {κs} {a} {b} {b'} {r} {r'} p q. one S g κs a b b' r r' p q }
+      → Puts dicts Has T name code life shows (λ S g κs a b r. P S g κs a b r × Q S g κs a b r)
+  both P Q met one = record { does = as_one dicts Has T name code life P Q met; one = λ {S} {g} {κs} {a} {b} {b'} {r} {r'} p q. one S g κs a b b' r r' p q }

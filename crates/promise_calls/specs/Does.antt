@@ -81,12 +81,14 @@ module _ (T : Ended) where
     abbrev pub Fills : ((κs : Lifetimes) → Left κs → List ℕ) → ((κs : Lifetimes) → Arguments κs → List ℕ → Answer κs → Type 0) → Type 2
     Fills holds P = Call {A = Answer} {B = λ κs. List ℕ} holds (λ κs r. r) P
 
--- A function over any type S that has a trait, such as a sink. `G S` are the ghost items of the trait for S and its dictionary, which has the
--- trait's functions for S, and `Has` says that these meet in a program what the trait promises of them. What is lent, the sink, is lent for no
--- longer than S lives.
+-- A function over any type S that has a trait, such as a sink. `G S` are the ghost items of the trait for S and its dictionary, which has
+-- the trait's functions for S, and `Has` says that these meet in a program what the trait promises of them. The signature has one lifetime
+-- more, its last, which stands for S (`life`): it ends no later than S lives.
 module _ {G : RattleType → Type 1} (dicts : (S : RattleType) → G S → Dicts)
-    (Has : (M : Type 1) (𝓤 : Ura M) (𝓛 : Logic 𝓤) (𝓜 : Model 𝓤 𝓛.H) (𝓡 : Running 𝓤 𝓛.H 𝓜) → Env → (S : RattleType) → G S → Type 2)
-    (T : (S : RattleType) → G S → Ended) (name : Generics → Callee) (code : Code) (lent : (S : RattleType) (g : G S) → Lifetimes (T S g) → Lft) where
+    (Has : (M : Type 1) (𝓤 : Ura M) (𝓛 : Logic 𝓤) (𝓜 : Model 𝓤 𝓛.H) (𝓡 : Running 𝓤 𝓛.H 𝓜)
+    → Env → (S : RattleType) → G S → Type 2)
+    (T : (S : RattleType) → G S → Ended) (name : Generics → Callee) (code : Code)
+    (life : (S : RattleType) (g : G S) → Lifetimes (T S g) → Lft) where
   -- as `Meeting`, for every S that has the trait
   abbrev pub MeetingOver : ((S : RattleType) (g : G S) → Promise (T S g)) → Type 2
   MeetingOver Q =
@@ -95,14 +97,14 @@ module _ {G : RattleType → Type 1} (dicts : (S : RattleType) → G S → Dicts
       → Meets 𝓛 (T S g).signature (𝓡.run (𝓡.env (name (bounded (a_type ∷ []) (S, tt {1}) (dicts S g)))))
       (λ κs a. record {
         ghost = Unit {0};
-        requires = λ h. sep 𝓤 (fact 𝓤 (lent S g κs ⊑ S.lives)) (emp 𝓤);
+        requires = λ h. sep 𝓤 (fact 𝓤 (life S g κs ⊑ S.lives)) (emp 𝓤);
         ensures = λ h r. exits 𝓛 (T S g).signature (T S g).kept κs a (λ b. Q S g M 𝓤 κs a b r);
       })
 
-  -- P holds of each call: of its arguments, of how it leaves them, and of its answer. And for the same arguments it holds of one such answer
-  -- alone, and of one thing that S then shows.
+  -- P holds of each call: of its arguments, of how it leaves them, and of its answer. And for the same arguments it holds of one such
+  -- answer alone, and of one thing that S then shows.
   pub record Puts (shows : (S : RattleType) (g : G S) (κs : Lifetimes (T S g)) → Left (T S g) κs → List ℕ × ℕ)
       (P : (S : RattleType) (g : G S) → Clause (T S g)) : Type 2 where
     pub does : MeetingOver (λ S g M 𝓤 κs a b r. fact 𝓤 (P S g κs a b r))
-    pub one : {S : RattleType} {g : G S} {κs : Lifetimes (T S g)} {a : Arguments (T S g) κs} {b b' : Left (T S g) κs} {r r' : Answer (T S g) κs}
-        → P S g κs a b r → P S g κs a b' r' → (r ≡ r') × (shows S g κs b ≡ shows S g κs b')
+    pub one : {S : RattleType} {g : G S} {κs : Lifetimes (T S g)} {a : Arguments (T S g) κs} {b b' : Left (T S g) κs}
+        {r r' : Answer (T S g) κs} → P S g κs a b r → P S g κs a b' r' → (r ≡ r') × (shows S g κs b ≡ shows S g κs b')

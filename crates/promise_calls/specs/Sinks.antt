@@ -20,7 +20,8 @@ abbrev pub sink_dicts : (S : RattleType) → OfSink S → Dicts
 sink_dicts S (g, d) = dcons d dnil
 
 -- its functions meet what the trait promises
-abbrev pub SinkMet : (M : Type 1) (𝓤 : Ura M) (𝓛 : Logic 𝓤) (𝓜 : Model 𝓤 𝓛.H) (𝓡 : Running 𝓤 𝓛.H 𝓜) → Env → (S : RattleType) → OfSink S → Type 2
+abbrev pub SinkMet : (M : Type 1) (𝓤 : Ura M) (𝓛 : Logic 𝓤) (𝓜 : Model 𝓤 𝓛.H) (𝓡 : Running 𝓤 𝓛.H 𝓜) → Env
+    → (S : RattleType) → OfSink S → Type 2
 SinkMet M 𝓤 𝓛 𝓜 𝓡 env S (g, d) = sink.Met 𝓛 𝓜 𝓡 env S g d
 
 -- a sink that takes encoded texts
@@ -30,5 +31,6 @@ OfCoded S = declared_coded.Ghosts S.Denot × (Dict × OfSink S)
 abbrev pub coded_dicts : (S : RattleType) → OfCoded S → Dicts
 coded_dicts S (g, (d, (h, e))) = dcons d (dcons e dnil)
 
-abbrev pub CodedMet : (M : Type 1) (𝓤 : Ura M) (𝓛 : Logic 𝓤) (𝓜 : Model 𝓤 𝓛.H) (𝓡 : Running 𝓤 𝓛.H 𝓜) → Env → (S : RattleType) → OfCoded S → Type 2
+abbrev pub CodedMet : (M : Type 1) (𝓤 : Ura M) (𝓛 : Logic 𝓤) (𝓜 : Model 𝓤 𝓛.H) (𝓡 : Running 𝓤 𝓛.H 𝓜) → Env
+    → (S : RattleType) → OfCoded S → Type 2
 CodedMet M 𝓤 𝓛 𝓜 𝓡 env S (g, (d, (h, e))) = coded.Met 𝓛 𝓜 𝓡 env S g d h e × sink.Met 𝓛 𝓜 𝓡 env S h e

@@ -1,9 +1,9 @@
--- How long a line is, by one whose positions have one digit. Assumes nothing.
+-- How long a line is, by one whose positions have one digit; and of a text that is no sheet. Assumes nothing.
 use native.Mathlib.Omega.{arith}
 use mathlib.Core.Path.{◌≡◌, refl, sym, ap}
 use mathlib.Core.Bool.{true, false, true≢false}
 use Prim.Native.Nat.{ℕ, ◌+◌, ◌-◌, ◌^◌, min}
-use mathlib.Core.List.{List}
+use mathlib.Core.List.{List, []}
 use lib.ListN.{length}
 use Rattle.std.specs.Prelude.{Option, None, Some, is_some}
 use Rattle.write_decimals.specs.Decimal.{decimal}
@@ -29,3 +29,9 @@ count_met encode (Some s) start end strand phase bytes e h =
 pub count_none : (o : Option Sheet) (line : List ℕ) → is_some o ≡ false → None ≡ sheet_count o line
 count_none None line e = refl
 count_none (Some s) line e = absurd (true≢false e)
+
+-- of a text that is no sheet the line is empty
+pub no_line : (encode : Set → List ℕ → List ℕ) (o : Option Sheet) (start end strand phase : ℕ) → is_some o ≡ false
+    → sheet_line encode o start end strand phase ≡ []
+no_line encode None start end strand phase e = refl
+no_line encode (Some s) start end strand phase e = absurd (true≢false e)

@@ -159,8 +159,8 @@ fn put_columns<S: Coded>(
     put_column(sheet, attributes, sink)
 }
 
-// The line of a sheet and the numbers beside it, where the sheet has the form, which is answered. Of one that has not, some part of a line is
-// put, or none.
+// The line of a sheet and the numbers beside it, where the sheet has the form, which is answered. Of one that has not, some part of a
+// line is put, or none.
 fn put_as_far<S: Coded>(
     sheet: &[u8],
     start: u64,

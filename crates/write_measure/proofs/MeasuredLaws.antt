@@ -12,9 +12,8 @@ use Rattle.base_buffer.specs.Answer.{refusal_of}
 use Rattle.base_buffer.proofs.AnswerLaws.{none_holds}
 use Rattle.sheet_form.specs.Sheet.{Sheet, sheet_read}
 use Rattle.base_refusals.specs.declared.Refusal.TheVariants as refusal
-use Rattle.percent_coding.specs.Percent.{encoded}
-use Rattle.percent_sets.specs.Sets.{escapes}
-use Rattle.write_measure.specs.Record.{faults, fault_reasons, record_reasons, record_line, sheet_line}
+use Rattle.write_line.proofs.CountLaws.{no_line}
+use Rattle.write_measure.specs.Record.{faults, fault_reasons, record_reasons, record_line}
 
 -- a sheet that has the form is one
 pub got : (m : Option Sheet) → is_some m ≡ true → (s : Sheet) × (m ≡ Some s)
@@ -40,8 +39,4 @@ found sheet start end strand phase s h e = rw (h, e)
 pub no_form : (sheet : List ℕ) (start end strand phase : ℕ) → ltb most_text (length sheet) ≡ false → is_some (sheet_read sheet) ≡ false
     → (refusal_of (record_reasons sheet start end strand phase) ≡ Some refusal.Sheet) × (record_line sheet start end strand phase ≡ [])
 unfolding record_reasons record_line
-no_form sheet start end strand phase h e = (rw (h, e), empty (sheet_read sheet) e)
-  where
-    empty : (o : Option Sheet) → is_some o ≡ false → sheet_line (λ set. encoded (escapes set)) o start end strand phase ≡ []
-    empty None f = refl
-    empty (Some s) f = absurd (true≢false f)
+no_form sheet start end strand phase h e = (rw (h, e), no_line _ (sheet_read sheet) start end strand phase e)

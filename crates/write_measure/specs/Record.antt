@@ -35,16 +35,20 @@ is_cds s = same s.type (ascii "CDS")
 
 -- ── the reasons to refuse it, in their order ──
 
--- what is wrong with a sheet and its numbers
-abbrev pub faults : Option Sheet → ℕ → ℕ → ℕ → ℕ → Faults
-faults sheet start end strand phase =
+-- what is wrong with numbers beside a score that is bad or not, and a type that is `CDS` or not
+abbrev pub faults_by : Bool → Bool → ℕ → ℕ → ℕ → ℕ → Faults
+faults_by score cds start end strand phase =
     record {
       position = eqb start 0 || eqb end 0;
-      score = asked bad_score sheet;
+      score = score;
       strand = ltb 3 strand;
       phase = ltb 3 phase;
-      cds = asked is_cds sheet && eqb phase 3;
+      cds = cds && eqb phase 3;
     }
+
+-- what is wrong with a sheet and its numbers
+abbrev pub faults : Option Sheet → ℕ → ℕ → ℕ → ℕ → Faults
+faults sheet start end strand phase = faults_by (asked bad_score sheet) (asked is_cds sheet) start end strand phase
 
 -- "2, 17, 3, 4, 18"
 abbrev pub fault_reasons : Faults → List Reason
@@ -76,15 +80,8 @@ places_of sheet =
 abbrev pub fault_at : List ℕ → Option (Place × Place) → ℕ → ℕ → ℕ → ℕ → Result (Unit {0}) Refusal
 fault_at sheet None start end strand phase = Err refusal.Sheet
 fault_at sheet (Some (type, score)) start end strand phase =
-    unless
-    (refusal_of (fault_reasons (record {
-      position = eqb start 0 || eqb end 0;
-      score = bad (text_at score sheet);
-      strand = ltb 3 strand;
-      phase = ltb 3 phase;
-      cds = same (text_at type sheet) (ascii "CDS") && eqb phase 3;
-    })))
-    tt
+    let f = faults_by (bad (text_at score sheet)) (same (text_at type sheet) (ascii "CDS")) start end strand phase in
+    unless (refusal_of (fault_reasons f)) tt
 
 abbrev pub fault_of : List ℕ → ℕ → ℕ → ℕ → ℕ → Result (Unit {0}) Refusal
 fault_of sheet start end strand phase = fault_at sheet (places_of sheet) start end strand phase
