@@ -59,8 +59,8 @@ pub fn lay_byte(b: u8, out: &mut [u8], at: usize) -> usize
     out.len()
 }
 
-// Lays a text: a copy of as many bytes as there is room for. The library's own copy of slices would call `memmove` of the C library, and a
-// static library for C is to need no name from outside.
+// Lays a text: a copy of as many bytes as there is room for. The library's own copy of slices would call `memmove` of the C library, and what
+// is made for C is not to need that name from outside.
 pub fn lay(s: &[u8], out: &mut [u8], at: usize) -> usize
     ensures { Lays s.now out.old at out.new result }
 {

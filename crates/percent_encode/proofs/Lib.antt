@@ -1,3 +1,4 @@
 mod CursorLaws
 mod PlainLaws
+mod WindowLaws
 mod Unique

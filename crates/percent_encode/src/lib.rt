@@ -27,10 +27,10 @@ pub use put::{Coded, put_encoded};
 pub fn count_escaped(set: Set, s: &[u8]) -> usize
     ensures { (result ≡ count_escaped (escapes set) s.now) × (result ≤ length s.now) }
 {
-    let table = percent_sets::classes();
+    let table = percent_sets::table();
     let mut n: usize = 0;
     for &b in s {
-        n += percent_sets::escaped_by(&table, set, b) as usize;
+        n += percent_sets::escaped_by(table, set, b) as usize;
     }
     n
 }
@@ -67,7 +67,7 @@ pub fn encode(set: Set, s: &[u8], out: &mut [u8]) -> Result<usize, WriteError>
     if 3 * s.len() <= out.len() {
         return Ok(lay_encoded(set, s, out, 0));
     }
-    let need = s.len() + 2 * count_escaped(set, s);
+    let need = s.len() + 2 * plain::count(set, s);
     if out.len() < need {
         return Err(WriteError::NoRoom(need));
     }
@@ -79,7 +79,7 @@ pub fn encode(set: Set, s: &[u8], out: &mut [u8]) -> Result<usize, WriteError>
 pub fn encoded_len(set: Set, s: &[u8]) -> usize
     ensures { (result ≡ min (length (encoded (escapes set) s.now)) (2 ^ 64 - 1)) × (result ≤ 3 * length s.now) }
 {
-    let escaped = count_escaped(set, s);
+    let escaped = plain::count(set, s);
     if (usize::MAX - s.len()) / 2 < escaped {
         return usize::MAX;
     }

@@ -1,4 +1,4 @@
-// Whether a text stays as it is when it is encoded, as most do: asked of many bytes at once.
+// What of a text is escaped, asked of many bytes at once: whether nothing is, as in most, and how many bytes are.
 ghost use Rattle.std.specs.Prelude.{◌≡◌, true, not, ◌+◌, ◌≤◌, eqb, length, take, drop};
 ghost use Rattle.percent_coding.specs.Percent.{encoded, count_escaped};
 ghost use Rattle.percent_sets.specs.Sets.{escapes};
@@ -74,5 +74,41 @@ pub(crate) fn stays(set: Set, s: &[u8]) -> bool
     match set {
         Set::Name => false,
         Set::Column | Set::Attribute => is_plain(s),
+    }
+}
+
+// How many of 16 bytes are escaped in a tag or a value: so few that a byte counts them, and LLVM makes one test of all 16. Kept out of the
+// loop over windows, of which LLVM would ask two at once, byte by byte.
+#[inline(never)]
+fn count_16(window: &[u8; 16]) -> usize
+    ensures { (result ≡ count_escaped (escapes Attribute) window.now) × (result ≤ 16) }
+{
+    let mut n: u8 = 0;
+    for &b in window {
+        n += !stands(b) as u8;
+    }
+    n as usize
+}
+
+// How many bytes of a text are escaped in a tag or a value: by windows of 16, and what is left behind the last by the table.
+fn count_many(s: &[u8]) -> usize
+    ensures { (result ≡ count_escaped (escapes Attribute) s.now) × (result ≤ length s.now) }
+{
+    let (windows, rest) = s.as_chunks::<16>();
+    let mut n = 0;
+    for window in windows {
+        n += count_16(window);
+    }
+    n + super::count_escaped(Set::Attribute, rest)
+}
+
+// How many bytes of a text the set escapes, as `count_escaped`. In columns 2 and 3 a long text is asked whether it stays as it is.
+pub(crate) fn count(set: Set, s: &[u8]) -> usize
+    ensures { (result ≡ count_escaped (escapes set) s.now) × (result ≤ length s.now) }
+{
+    match set {
+        Set::Attribute => count_many(s),
+        Set::Column if 16 <= s.len() && is_plain(s) => 0,
+        Set::Name | Set::Column => super::count_escaped(set, s),
     }
 }

@@ -1,5 +1,5 @@
 // An encoded text, put into any sink.
-ghost use Rattle.std.specs.Prelude.{◌≡◌, ◌<◌, ◌-◌, ◌^◌, min, length};
+ghost use Rattle.std.specs.Prelude.{◌≡◌, ◌<◌};
 ghost use Rattle.percent_coding.specs.Percent.{escape, piece, encoded};
 ghost use Rattle.percent_sets.specs.Sets.{escapes, classes};
 
@@ -30,9 +30,9 @@ fn put_piece<S: Sink>(table: &[u8; 256], set: Set, b: u8, sink: &mut S)
 fn put_pieces<S: Sink>(set: Set, s: &[u8], sink: &mut S)
     ensures { S.took (encoded (escapes set) s.now) sink.old sink.new }
 {
-    let table = percent_sets::classes();
+    let table = percent_sets::table();
     for b in s {
-        put_piece(&table, set, *b, sink);
+        put_piece(table, set, *b, sink);
     }
 }
 
@@ -45,16 +45,6 @@ pub fn put_encoded<S: Sink>(set: Set, s: &[u8], sink: &mut S)
     } else {
         put_pieces(set, s, sink);
     }
-}
-
-// The length of the encoded text, as `encoded_len`, which asks each byte: not asked where nothing is escaped.
-fn coded_len(set: Set, s: &[u8]) -> usize
-    ensures { result ≡ min (length (encoded (escapes set) s.now)) (2 ^ 64 - 1) }
-{
-    if super::plain::stays(set, s) {
-        return s.len();
-    }
-    super::encoded_len(set, s)
 }
 
 // A sink that takes a text encoded by a set.
@@ -71,7 +61,7 @@ impl<'a> Coded for Page<'a> {
 
 impl Coded for Count {
     fn encoded(&mut self, set: Set, s: &[u8]) {
-        self.bytes = self.bytes.saturating_add(coded_len(set, s));
+        self.bytes = self.bytes.saturating_add(super::encoded_len(set, s));
     }
 }
 

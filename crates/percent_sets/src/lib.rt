@@ -23,7 +23,7 @@ pub enum Set {
 
 // A line for each byte, by its name, so that a reader can hold it to RULES 6.3; rows of numbers would be shorter and could not be read so.
 // How many sets escape each byte. 3: every one; 2: tags and values, and column 1; 1: column 1 alone; 0: none.
-const CLASSES: [u8; 256] = [
+static CLASSES: [u8; 256] = [
     3, // 0x00
     3, // 0x01
     3, // 0x02
@@ -282,11 +282,18 @@ const CLASSES: [u8; 256] = [
     3, // 0xFF
 ];
 
-// The class of each byte. A constant array is laid on the stack wherever it is named, so a caller takes it once and asks it for many bytes.
+// The class of each byte, lent where it stands: whoever takes the numbers themselves has them laid on the stack.
+pub fn table() -> &'static [u8; 256]
+    ensures { result.now ≡ classes }
+{
+    &CLASSES
+}
+
+// The class of each byte.
 pub fn classes() -> [u8; 256]
     ensures { result ≡ classes }
 {
-    CLASSES
+    *table()
 }
 
 // The least class that a set escapes.
@@ -311,6 +318,5 @@ pub fn escaped_by(table: &[u8; 256], set: Set, b: u8) -> bool
 pub fn escaped(set: Set, b: u8) -> bool
     ensures { result ≡ escapes set b }
 {
-    let table = classes();
-    escaped_by(&table, set, b)
+    escaped_by(table(), set, b)
 }

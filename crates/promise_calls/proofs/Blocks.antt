@@ -86,6 +86,7 @@ blocks =
       decoded_len = also (λ _ (s, _) left r. r ≤ length s.now) (λ M. percent_decode.decoded_len.Met.met);
       count_escaped = also (λ _ (_, (s, _)) left r. r ≤ length s.now) (λ M. percent_encode.count_escaped.Met.met);
       encoded_len = also (λ _ (_, (s, _)) left r. r ≤ 3 * length s.now) (λ M. percent_encode.encoded_len.Met.met);
+      table = told (λ M. percent_sets.table.Met.met);
       classes = told (λ M. percent_sets.classes.Met.met);
       escaped = told (λ M. percent_sets.escaped.Met.met);
       escaped_by = told (λ M. percent_sets.escaped_by.Met.met);

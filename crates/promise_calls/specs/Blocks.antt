@@ -170,6 +170,8 @@ pub record Blocks : Type 2 where
       percent_encode.encoded_len.Symbol.name percent_encode.encoded_len.Symbol.code
       (λ _ (set, (s, _)). min (length (encoded (sets.escapes set) s.now)) (2 ^ 64 - 1))
   -- tables and tests of percent coding
+  pub table : Shows percent_sets_contracts.table.ended percent_sets.table.Symbol.name percent_sets.table.Symbol.code (λ _ r. r.now)
+      (λ _ a. sets.classes)
   pub classes : Gives percent_sets_contracts.classes.ended percent_sets.classes.Symbol.name percent_sets.classes.Symbol.code
       (λ _ a. sets.classes)
   pub escaped : Gives percent_sets_contracts.escaped.ended percent_sets.escaped.Symbol.name percent_sets.escaped.Symbol.code

@@ -13,19 +13,19 @@ use Rattle.percent_sets.specs.Sets.{escapes}
 use Rattle.percent_encode.specs.Encode.{encode_reasons}
 use Rattle.percent_coding.proofs.PercentLaws.{length_encoded, length_encoded_most}
 use Rattle.percent_encode.proofs.encode.Goals as goal
-use Rattle.percent_encode.proofs.encode.Goals.{After-count_escaped, Else-s-gt-MOST_TEXT}
+use Rattle.percent_encode.proofs.encode.Goals.{After-count, Else-s-gt-MOST_TEXT}
 
 -- a text that is not too long gives no reason to refuse
 no_reason : (c : Else-s-gt-MOST_TEXT) → refusal_of (encode_reasons c.args.s.now) ≡ None
 no_reason c = rw (le-ltb most_text (length c.args.s.now) (omega (arith, c.if-s-gt-MOST_TEXT.false)))
 
 -- the length, as the code works it out
-measured : (c : After-count_escaped)
+measured : (c : After-count)
     → let a = c.args in
-    length a.s.now + 2 * c.count_escaped.result ≡ length (encoded (escapes a.set) a.s.now)
+    length a.s.now + 2 * c.count.result ≡ length (encoded (escapes a.set) a.s.now)
 measured c =
     let a = c.args in
-    omega (arith, length_encoded (escapes a.set) a.s.now, c.count_escaped.ensures.0)
+    omega (arith, length_encoded (escapes a.set) a.s.now, c.count.ensures.0)
 
 pub returns-then-s-gt-MOST_TEXT : goal.returns-then-s-gt-MOST_TEXT
 returns-then-s-gt-MOST_TEXT c =
@@ -39,9 +39,9 @@ returns-then-s-out c =
     wrote_done (no_reason (goal.at.returns-then-s-out c).Else-s-gt-MOST_TEXT) (omega (arith, c.lay_encoded.ensures.end)) (omega arith) c.lay_encoded.ensures
 
 pub returns-then-out-need : goal.returns-then-out-need
-returns-then-out-need c = wrote_no_room (no_reason (goal.at.returns-then-out-need c).Else-s-gt-MOST_TEXT) (measured (goal.at.returns-then-out-need c).After-count_escaped) c.if-out-need.true
+returns-then-out-need c = wrote_no_room (no_reason (goal.at.returns-then-out-need c).Else-s-gt-MOST_TEXT) (measured (goal.at.returns-then-out-need c).After-count) c.if-out-need.true
 
 pub returns : goal.returns
 returns c =
-    wrote_done (no_reason (goal.at.returns c).Else-s-gt-MOST_TEXT) (measured (goal.at.returns c).After-count_escaped) c.if-out-need.false
+    wrote_done (no_reason (goal.at.returns c).Else-s-gt-MOST_TEXT) (measured (goal.at.returns c).After-count) c.if-out-need.false
     c.lay_encoded-2.ensures

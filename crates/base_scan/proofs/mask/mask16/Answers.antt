@@ -40,7 +40,7 @@ overflow_cast-result c = let a = c.args in fits a.b a.at a.s.now _ c.requires (o
 
 pub returns : goal.returns
 returns c =
-    let a = c.args in (
-      read a.b a.at a.s.now _ c.requires (omega (arith, here, behind)),
-      narrow a.b a.at a.s.now _ c.requires (omega (arith, here, behind)),
-    )
+    let a = c.args in
+    let e = mask_lanes a.b 16 _ (long a.b a.at a.s.now _ c.requires refl) (omega arith) in
+    let n = narrow a.b a.at a.s.now _ c.requires refl in
+    (omega (arith, e, n), omega (arith, e, n))

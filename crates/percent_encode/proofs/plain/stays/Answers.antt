@@ -6,15 +6,14 @@ use Prim.Native.Nat.{ℕ}
 use Rattle.percent_sets.specs.Sets.{escapes}
 use Rattle.percent_sets.specs.declared.Set.{Set}
 use Rattle.percent_sets.specs.declared.Set.TheVariants.{Name, Column, Attribute}
-use Rattle.percent_encode.proofs.PlainLaws.{plain_stays}
+use Rattle.percent_encode.proofs.PlainLaws.{plain_stays, column_within}
 use Rattle.percent_encode.proofs.plain.stays.Goals as goal
 
 -- the two sets of the second arm
 second : (set : Set) → (set ≡ Column) ⊎ (set ≡ Attribute) → (x : ℕ) → escapes set x ≡ true
     → escapes Attribute x ≡ true
-unfolding escapes
 second Name k = ⊎_elim (λ w. cc) (λ w. cc) k
-second Column k = λ x e. rw e
+second Column k = column_within
 second Attribute k = λ x e. e
 
 pub returns-in-Name : goal.returns-in-Name

@@ -1,9 +1,10 @@
 -- `measure`: the first reason that holds, or the length. Assumes nothing.
 use native.Mathlib.Omega.{arith}
-use mathlib.Core.Path.{◌≡◌}
+use mathlib.Core.Path.{◌≡◌, ap}
 use Prim.Native.Nat.{◌-◌, ◌^◌, min}
 use lib.ListN.{length}
 use borrow.Author.Tests.{lt-ltb}
+use Rattle.std.specs.Prelude.{Ok}
 use Rattle.std.proofs.lemmas.Result.{err_from_is_err_and}
 use Rattle.base_lists.proofs.EveryLaws.{all_bytes}
 use Rattle.base_buffer.specs.Answer.{unless}
@@ -35,4 +36,4 @@ returns c =
     = rw (c.count_line-counted.ensures, form.1) at c.unwrap_or.ensures in
     let all : c.unwrap_or.result ≡ length (record_line a.sheet.now a.start a.end a.strand a.phase)
     = omega (arith, counted, few, c.if-sheet-gt-MOST_TEXT.false) in
-    rw (none, all)
+    rw none (ap Ok (omega (arith, all)))
