@@ -77,15 +77,11 @@ module _ (set : ℕ → Bool) where
       go true e = plain_last n n s fits (omega arith) (eqb-true (count_escaped set (take n s)) 0 e)
       go false e = sym (plain_not 0 n s e)
 
--- of a text that a larger set leaves plain nothing is escaped
-pub plain_none : (set less : ℕ → Bool) → ((x : ℕ) → less x ≡ true → set x ≡ true) → (s : List ℕ) → plain set s ≡ true
-    → count_escaped less s ≡ 0
-plain_none set less within s e = omega (arith, count_within set less within s, eqb-true (count_escaped set s) 0 e)
-
--- so it stays as it is
+-- a text that a larger set leaves plain stays as it is
 pub plain_stays : (set less : ℕ → Bool) → ((x : ℕ) → less x ≡ true → set x ≡ true) → (s : List ℕ) → plain set s ≡ true
     → encoded less s ≡ s
-plain_stays set less within s e = encoded_none less s (plain_none set less within s e)
+plain_stays set less within s e =
+    encoded_none less s (omega (arith, count_within set less within s, eqb-true (count_escaped set s) 0 e))
 
 -- what columns 2 and 3 escape, tags and values do too
 pub column_within : (x : ℕ) → escapes Column x ≡ true → escapes Attribute x ≡ true
