@@ -20,7 +20,7 @@ module _ (set : ℕ → Bool) where
   plain s = eqb (count_escaped set s) 0
 
   -- a text, cut in two
-  count_cut : (i : ℕ) (s : List ℕ) → count_escaped set s ≡ count_escaped set (take i s) + count_escaped set (drop i s)
+  pub count_cut : (i : ℕ) (s : List ℕ) → count_escaped set s ≡ count_escaped set (take i s) + count_escaped set (drop i s)
   count_cut i s = ap (count_escaped set) (sym (take-append-drop i s)) ∙ count_append set (take i s) (drop i s)
 
   -- a window has no more than the text

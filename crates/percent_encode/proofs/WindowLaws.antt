@@ -7,9 +7,8 @@ use mathlib.Core.List.{List, []}
 use lib.ListN.{take, drop, get_or}
 use Rattle.std.specs.Simd.{first_chunks}
 use Rattle.std.proofs.lemmas.List.{drop-drop}
-use Rattle.std.proofs.lemmas.Simd.{chunk-drop}
 use Rattle.percent_coding.specs.Percent.{count_escaped}
-use Rattle.percent_coding.proofs.PercentLaws.{count_append}
+use Rattle.percent_encode.proofs.PlainLaws.{count_cut}
 
 -- the window from i on, where i is told in two ways
 from : (n : ℕ) (s : List ℕ) (i j : ℕ) → i ≡ j → take n (drop i s) ≡ take n (drop j s)
@@ -25,6 +24,6 @@ window_at n (suc k) s (suc i) h =
     ∙ from n s (n + i * n) (suc i * n) (omega arith)
 
 -- what is escaped from a window on: in it, and behind it
-pub count_window : (set : ℕ → Bool) (i n : ℕ) (s : List ℕ)
+pub count_on : (set : ℕ → Bool) (i n : ℕ) (s : List ℕ)
     → count_escaped set (drop i s) ≡ count_escaped set (take n (drop i s)) + count_escaped set (drop (i + n) s)
-count_window set i n s = ap (count_escaped set) (chunk-drop i n s) ∙ count_append set (take n (drop i s)) (drop (i + n) s)
+count_on set i n s = rw (drop-drop n i s) at (count_cut set n (drop i s))

@@ -35,12 +35,25 @@ module _ (b at : ℕ) (s xs : List ℕ) (inside : at + 16 ≤ length s) (e : tak
   fits : Fits w32 (digits b (take 16 xs))
   fits = omega (arith, narrow)
 
+-- of a window that begins at p
+module _ (b at : ℕ) (s : List ℕ) (inside : at + 16 ≤ length s) where
+  read_here : (p : ℕ) → p ≡ at → digits b (take 16 (drop p s)) ≡ mask b (take 16 (drop at s))
+  read_here p e = read b at s _ inside (here p at s e)
+
+  read_behind : (p : ℕ) → p ≡ at → digits b (take 16 (take (length s - p) (drop p s))) ≡ mask b (take 16 (drop at s))
+  read_behind p e = read b at s _ inside (behind p at s e)
+
 pub overflow_cast-result : goal.overflow_cast-result
 overflow_cast-result c = let a = c.args in fits a.b a.at a.s.now _ c.requires (omega (arith, here, behind))
 
+-- by what is done with the digits of the window at `at`, or by where the window begins
 pub returns : goal.returns
 returns c =
     let a = c.args in
-    let e = mask_lanes a.b 16 _ (long a.b a.at a.s.now _ c.requires refl) (omega arith) in
-    let n = narrow a.b a.at a.s.now _ c.requires refl in
-    (omega (arith, e, n), omega (arith, e, n))
+    let told = read_here a.b a.at a.s.now c.requires a.at refl in
+    let few = narrow a.b a.at a.s.now _ c.requires refl in
+    let at_p = read_here a.b a.at a.s.now c.requires in
+    let behind_p = read_behind a.b a.at a.s.now c.requires in (
+      first_of (omega (arith, told, few), grind (arith, at_p, behind_p, few)),
+      first_of (omega (arith, told, few), grind (arith, at_p, behind_p, few)),
+    )

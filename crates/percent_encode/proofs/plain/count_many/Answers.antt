@@ -5,7 +5,7 @@ use mathlib.Core.Path.{◌≡◌}
 use lib.ListN.{length}
 use Rattle.percent_sets.specs.Sets.{escapes}
 use Rattle.percent_sets.specs.declared.Set.TheVariants.{Attribute}
-use Rattle.percent_encode.proofs.WindowLaws.{window_at, count_window}
+use Rattle.percent_encode.proofs.WindowLaws.{window_at, count_on}
 use Rattle.percent_encode.proofs.plain.count_many.Goals as goal
 
 pub loop-window-init : goal.loop-window-init
@@ -21,7 +21,7 @@ loop-window-preserved c =
     let here : i < length s / 16 = omega (arith, c.as_chunks.ensures.front_len) in
     let told = rw (c.as_chunks.ensures.front, window_at 16 (length s / 16) s i here) at c.count_16-n.ensures in
     let next : i * 16 + 16 ≡ (i + 1) * 16 = omega arith in
-    let more = rw next at (count_window (escapes Attribute) (i * 16) 16 s) in
+    let more = rw next at (count_on (escapes Attribute) (i * 16) 16 s) in
     (omega arith, omega arith)
 
 pub returns : goal.returns
